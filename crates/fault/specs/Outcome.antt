@@ -1,4 +1,5 @@
 -- What a call comes to.
+use mathlib.Core.Bool.{Bool, cond}
 use Rattle.std.specs.declared.result.Result.{Result}
 use Rattle.std.specs.declared.result.Result.the-variants.{Ok, Err}
 use Rattle.fault.specs.declared.Fault.{Fault}
@@ -12,3 +13,7 @@ pub data Outcome (X : Type 0) : Type 0 where
 abbrev pub told : {X Y E : Type 0} → (X → Y) → (E → Fault) → Result X E → Outcome Y
 told seen why (Ok x) = answered (seen x)
 told seen why (Err e) = refused (why e)
+
+-- a check: a fault where `bad` holds, and otherwise what follows
+abbrev pub refuse-if : {X : Type 0} → Bool → Fault → Outcome X → Outcome X
+refuse-if bad fault rest = cond bad (refused fault) rest

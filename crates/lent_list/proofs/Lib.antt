@@ -1,2 +1,3 @@
 mod Reading
 mod Copying
+pub mod Filling

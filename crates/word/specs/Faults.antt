@@ -1,12 +1,11 @@
 -- The faults of the word layer.
-use mathlib.Core.Bool.{cond}
 use Prim.Native.Nat.{ℕ}
 use lib.Dec.{ltb}
 use Rattle.fault.specs.declared.Fault.{Fault}
 use Rattle.fault.specs.declared.Layer.the-variants.{Word}
 use Rattle.fault.specs.Faults.{found}
-use Rattle.fault.specs.Outcome.{Outcome}
-use Rattle.fault.specs.Outcome.Outcome.{answered, refused}
+use Rattle.fault.specs.Outcome.{Outcome, refuse-if}
+use Rattle.fault.specs.Outcome.Outcome.{answered}
 use Rattle.word.specs.declared.fault.WordFault.{WordFault}
 use Rattle.word.specs.declared.fault.WordFault.the-variants.{ShortMemory, LongWord, NotLyndon}
 
@@ -15,6 +14,10 @@ word-fault ShortMemory = found 6 Word 0 0
 word-fault LongWord = found 17 Word 0 0
 word-fault NotLyndon = found 18 Word 0 0
 
--- may a memory of this size be filled with so many elements?
+-- a list's memory of this size is to hold so many elements
 abbrev pub room-checked : ℕ → ℕ → Outcome (Unit {0})
-room-checked size elements = cond (ltb size elements) (refused (found 6 Word 0 0)) (answered tt)
+room-checked size elements = refuse-if (ltb size elements) (found 6 Word 0 0) (answered tt)
+
+-- a word of more than 65,535 letters is refused
+abbrev pub unless-long : {X : Type 0} → ℕ → Outcome X → Outcome X
+unless-long letters rest = refuse-if (ltb 65535 letters) (found 17 Word 0 0) rest

@@ -1,6 +1,16 @@
-//! Words over any ordered letters.
+//! Words over any ordered letters: their factors, and the splits of Lyndon words.
 
+mod factoring;
 mod fault;
+mod run;
+mod splitting;
 
+pub use factoring::factor;
+pub use factoring::first;
 pub use fault::WordFault;
+pub use fault::WordFromFull;
 pub use fault::check_room;
+pub use splitting::split;
+
+/// The most letters that a word may have.
+const LONGEST: usize = 65_535;

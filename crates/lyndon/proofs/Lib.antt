@@ -1,0 +1,9 @@
+pub mod Orders
+pub mod Dictionary
+pub mod Comparing
+pub mod LyndonWords
+pub mod Factorization
+pub mod Splitting
+pub mod Theorems
+pub mod Duval
+pub mod Runs

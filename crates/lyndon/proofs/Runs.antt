@@ -1,0 +1,105 @@
+-- The loop that reads the equal factors with which a word begins.
+use mathlib.Core.Path.{_≡_, refl, sym, ap, subst, _∙_}
+use mathlib.Core.List.{List, [], _∷_, _++_, append-assoc, append-nil}
+use mathlib.Core.Logic.{_⊎_, inl, inr}
+use Prim.Native.Nat.{ℕ, zero, suc, _+_, _-_, _*_, _/_, _≤_, _<_}
+use native.Mathlib.Nat.{zero-mul, suc-mul, div-mul-le-self, le-div-iff-mul-le, one-mul}
+use native.Mathlib.Omega.{arith}
+use lib.ListN.{length, take, drop, replicate, getD, length-append, take-append-drop}
+use lib.Seq.{take-append-seam, drop-append-seam}
+use Rattle.std.specs.declared.cmp.Ordering.{Ordering}
+use Rattle.std.specs.declared.cmp.Ordering.the-variants.{Less, Equal, Greater}
+use Rattle.std.specs.Orderings.{reversed}
+use Rattle.std.proofs.shelf.Lists.{drop-all, drop-drop, drop-more, getD-at, getD-take, length-take-le, take-more}
+use Rattle.letter_order.specs.Orders.{TotalOrder}
+use Rattle.lyndon.specs.Words.{Lyndon}
+use Rattle.lyndon.specs.Factoring.{factors}
+use Rattle.lyndon.specs.Runs.{LeadingRun}
+use Rattle.lyndon.proofs.LyndonWords.{Cut, cuts, single}
+use Rattle.lyndon.proofs.Factorization.{longest-first}
+use Rattle.lyndon.proofs.Duval.{Reads, Stops, fresh, next, step-greater, step-same, stop}
+
+-- `read` letters of w are read, and the letter at `back` would go on with the period
+pub record Reading {A : Type 0} (ranks : A → A → Ordering) (w : List A) (read back : ℕ) : Type 0 where
+  pub u : List A
+  pub v : List A
+  pub c : A
+  pub reads : Reads ranks u v c
+  pub front : take read w ≡ u ++ v
+  pub size : length v ≡ back
+
+module _ {A : Type 0} {ranks : A → A → Ordering} (o : TotalOrder ranks) where
+  pub reading-start : (w : List A) → 0 < length w → Reading ranks w 1 0
+  reading-start [] h = absurd (omega arith)
+  reading-start (x ∷ w) h = record { u = x ∷ []; v = []; c = x; reads = fresh o x [] (single o x); front = refl; size = refl }
+
+  -- as many equal factors as fit into what is read
+  run : (k : ℕ) (u v x w : List A) (c : A) → Reads ranks u v c → Stops ranks c x → w ≡ u ++ (v ++ x) → k * length u ≤ length u + length v → factors ranks w ≡ replicate k u ++ factors ranks (drop (k * length u) w)
+  run zero u v x w c R s e h = rw zero-mul refl
+  run (suc k) u v x w c R s e h =
+      let one : factors ranks w ≡ u ∷ factors ranks (v ++ x) = longest-first o w u (v ++ x) e (R .lyndon) (λ g q G d. stop o u v c R x s g q G (sym e ∙ d)) in
+      let left : drop (k * length u) (v ++ x) ≡ drop (suc k * length u) w = ap (drop (k * length u)) (sym (drop-append-seam u (v ++ x)) ∙ ap (drop (length u)) (sym e)) ∙ drop-drop (k * length u) (length u) w ∙ ap (λ n. drop n w) (omega (arith, suc-mul k (length u))) in
+      one ∙ ap (λ fs. u ∷ fs) (more k (omega (arith, suc-mul k (length u))) (λ t S d n. run k u t x (v ++ x) c S s d n) ∙ ap (λ l. replicate k u ++ factors ranks l) left)
+    where
+      more : (k : ℕ) → k * length u ≤ length v → ((t : List A) → Reads ranks u t c → v ++ x ≡ u ++ (t ++ x) → k * length u ≤ length u + length t → factors ranks (v ++ x) ≡ replicate k u ++ factors ranks (drop (k * length u) (v ++ x))) → factors ranks (v ++ x) ≡ replicate k u ++ factors ranks (drop (k * length u) (v ++ x))
+      more zero n again = rw zero-mul refl
+      more (suc k) n again =
+          elim (cuts u v v (c ∷ R .rest) (R .again)) [
+            | inl (t, a, b) ↦ again t (next o u t c (subst (λ z. Reads ranks u z c) a R)) (ap (λ z. z ++ x) a ∙ append-assoc u t x) (omega (arith, ap length a ∙ length-append u t))
+            | inr (t, ht, a, b) ↦ absurd (omega (arith, suc-mul k (length u), ap length a ∙ length-append v t))
+          ]
+
+  module _ (w : List A) (read back : ℕ) (R : Reading ranks w read back) (within : read ≤ length w) where
+    sizes : read ≡ length (R .u) + back
+    sizes = sym (length-take-le read w within) ∙ ap length (R .front) ∙ length-append (R .u) (R .v) ∙ ap (λ z. length (R .u) + z) (R .size)
+
+    pub behind : back < read
+    behind = omega (arith, sizes, R .reads .lyndon .some)
+
+    -- the letter at `back` is the one that goes on
+    letter-at : (x : A) → x ≡ getD w back x → x ≡ R .c
+    letter-at x e = e ∙ sym (getD-take read w back x behind) ∙ ap (λ z. getD z back x) (R .front ∙ R .reads .again) ∙ getD-at (R .v) (R .c) (R .reads .rest) x back (R .size)
+
+    pub stops-end : length w ≤ read → Stops ranks (R .c) (drop read w)
+    stops-end h = rw (drop-all read w h) tt
+
+    module _ (x y : A) (more : read < length w) (hx : x ≡ getD w back x) (hy : y ≡ getD w read y) where
+      next-read : take (read + 1) w ≡ (R .u ++ R .v) ++ y ∷ []
+      next-read = take-more w read y more ∙ ap (λ z. z ++ getD w read y ∷ []) (R .front) ∙ ap (λ z. (R .u ++ R .v) ++ z ∷ []) (sym hy)
+
+      pub reading-same : ranks x y ≡ Equal → Reading ranks w (read + 1) (back + 1)
+      reading-same h =
+          let S = step-same o (R .u) (R .v) (R .c) (R .reads) in
+          record {
+            u = R .u;
+            v = R .v ++ R .c ∷ [];
+            c = S .0;
+            reads = S .1;
+            front = next-read ∙ ap (λ z. (R .u ++ R .v) ++ z ∷ []) (sym (o .same x y .0 h) ∙ letter-at x hx) ∙ append-assoc (R .u) (R .v) (R .c ∷ []);
+            size = length-append (R .v) (R .c ∷ []) ∙ ap (λ z. z + 1) (R .size);
+          }
+
+      pub reading-greater : ranks x y ≡ Less → Reading ranks w (read + 1) 0
+      reading-greater h = go ((R .u ++ R .v) ++ y ∷ []) next-read (step-greater o (R .u) (R .v) (R .c) y (R .reads) (subst (λ z. ranks z y ≡ Less) (letter-at x hx) h))
+        where
+          go : (l : List A) → take (read + 1) w ≡ l → Lyndon ranks l → Reading ranks w (read + 1) 0
+          go [] e L = absurd (omega (arith, L .some))
+          go (b ∷ l) e L = record { u = b ∷ l; v = []; c = b; reads = fresh o b l L; front = e ∙ sym (append-nil (b ∷ l)); size = refl }
+
+      pub stops-less : ranks x y ≡ Greater → Stops ranks (R .c) (drop read w)
+      stops-less h = subst (Stops ranks (R .c)) (sym (drop-more w read y more ∙ ap (λ z. z ∷ drop (read + 1) w) (sym hy))) (subst (λ z. ranks y z ≡ Less) (letter-at x hx) (o .exchanged x y ∙ ap reversed h))
+
+    pub reading-run : Stops ranks (R .c) (drop read w) → LeadingRun ranks w (read - back) (read / (read - back))
+    reading-run s =
+        let p = length (R .u) in
+        let n : read - back ≡ p = omega (arith, sizes) in
+        let whole : read / p * p ≤ read = div-mul-le-self read p in
+        let front : w ≡ R .u ++ (R .v ++ drop read w) = sym (take-append-drop read w) ∙ ap (λ z. z ++ drop read w) (R .front) ∙ append-assoc (R .u) (R .v) (drop read w) in
+        let first : take p w ≡ R .u = ap (take p) front ∙ take-append-seam (R .u) (R .v ++ drop read w) in
+        let factored : factors ranks w ≡ replicate (read / p) (R .u) ++ factors ranks (drop (read / p * p) w) = run (read / p) (R .u) (R .v) (drop read w) w (R .c) (R .reads) s front (omega (arith, sizes, R .size, whole)) in
+        rw n (record {
+          letters = R .reads .lyndon .some;
+          some = le-div-iff-mul-le {x = 1} (R .reads .lyndon .some) .1 (rw one-mul (omega (arith, sizes)));
+          within = omega (arith, whole);
+          factored = rw first factored;
+        })

@@ -1,0 +1,4 @@
+pub mod Words
+pub mod Factoring
+pub mod Runs
+pub mod Theorems

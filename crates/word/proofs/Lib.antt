@@ -1,0 +1,4 @@
+pub mod Outcomes
+pub mod Runs
+pub mod Starts
+pub mod LastFactor
