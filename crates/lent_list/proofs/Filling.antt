@@ -5,6 +5,9 @@ use mathlib.Core.Logic.{inl, inr}
 use Prim.Native.Nat.{ℕ, suc, _+_, _-_, _≤_, _<_}
 use native.Mathlib.Omega.{arith}
 use lib.ListN.{length, take, drop, set, length-append, length-drop, length-take}
+use Rattle.std.specs.Results.{Cases}
+use Rattle.std.specs.declared.result.Result.{Result}
+use Rattle.std.specs.declared.result.Result.the-variants.{Ok, Err}
 use Rattle.std.proofs.shelf.Lists.{append-assoc, append-nil, drop-all, drop-at, drop-drop, length-push, length-take-le, set-split, take-all, take-append-drop}
 use Rattle.std.proofs.shelf.Tests.{cases-lt}
 use Rattle.lent_list.specs.Lent.{over}
@@ -51,3 +54,8 @@ module _ {X : Type 0} where
       ∙ ap (λ l. over l memory) (sym new)
       ∙ ap (over items′) was
       ∙ over-over (take count memory) items′ base (omega (arith, ap length new, length-push (take count memory) x))
+
+-- what holds where a call did not fail
+pub done : {T E : Type 0} (r : Result T E) (P Q : Type 0) → Cases r (λ _. P) (λ _. Q) → (Q → ⊥) → P
+done (Ok x) P Q h never = h
+done (Err e) P Q h never = absurd (never h)

@@ -1,14 +1,18 @@
 //! One list over memory that the caller lends, for every kind of element.
 ghost use mathlib.Core.Path.{_≡_};
-ghost use mathlib.Core.Bool.{cond};
 ghost use mathlib.Core.List.{[], _∷_, _++_};
 ghost use Prim.Native.Nat.{_≤_, _<_};
-ghost use lib.Dec.{leb, ltb};
 ghost use lib.ListN.{length, set};
 ghost use denote.Ref.{name};
+ghost use Rattle.std.specs.Orderings.{When};
 ghost use Rattle.std.specs.Results.{Cases};
 ghost use Rattle.std.specs.shelf.Maps.{nth};
 ghost use Rattle.lent_list.specs.Lent.{places, items, over};
+
+mod read;
+
+use read::element;
+use read::front;
 
 /// The memory is too short for what is to be put into it.
 #[derive(Clone, Copy, Debug)]
@@ -33,13 +37,11 @@ impl<'a, T: Copy> LentList<'a, T> {
 
     /// The elements.
     pub fn items(&self) -> &[T]
-        ensures { λ r. ⌜ now r ≡ items (now (self .entry)) ⌝ }
+        ensures value { λ r. ⌜ now r ≡ items (now (self .entry)) ⌝ }
+        ensures within { λ r. ⌜ length (now r) ≤ length (places (now (self .entry))) ⌝ }
     {
-        if self.count < self.memory.len() {
-            &self.memory[0..self.count]
-        } else {
-            &*self.memory
-        }
+        let memory = &*self.memory;
+        front(memory, self.count)
     }
 
     /// How many elements there are: never more than the memory has places.
@@ -61,7 +63,7 @@ impl<'a, T: Copy> LentList<'a, T> {
     pub fn get(&self, place: usize) -> Option<T>
         ensures { λ r. ⌜ r ≡ nth (items (now (self .entry))) place ⌝ }
     {
-        self.items().get(place).copied()
+        element(self.items(), place)
     }
 
     /// One element more, behind the others.
@@ -74,11 +76,10 @@ impl<'a, T: Copy> LentList<'a, T> {
             × (now (self .exit) ≡ now (self .entry))) ⌝ }
         ensures lender { λ _. ⌜ name (now (self .exit) .memory) ≡ name (now (self .entry) .memory) ⌝ }
     {
-        if self.count >= self.memory.len() {
+        if self.is_full() {
             return Err(Full);
         }
-        self.memory[self.count] = x;
-        self.count += 1;
+        self.put(x);
         Ok(())
     }
 
@@ -92,13 +93,10 @@ impl<'a, T: Copy> LentList<'a, T> {
             × (now (self .exit) ≡ now (self .entry))) ⌝ }
         ensures lender { λ _. ⌜ name (now (self .exit) .memory) ≡ name (now (self .entry) .memory) ⌝ }
     {
-        if elements.len() > self.memory.len() {
+        if elements.len() > self.size() {
             return Err(Full);
         }
-        for (i, x) in elements.iter().enumerate() {
-            self.memory[i] = *x;
-        }
-        self.count = elements.len();
+        self.refill(elements);
         Ok(())
     }
 
@@ -118,5 +116,38 @@ impl<'a, T: Copy> LentList<'a, T> {
     {
         let LentList { memory, count: _ } = self;
         memory
+    }
+
+    // whether each place holds an element
+    fn is_full(&self) -> bool
+        ensures { λ r. ⌜ When r
+            (length (items (now (self .entry))) ≡ length (places (now (self .entry))))
+            ((length (items (now (self .entry))) < length (places (now (self .entry)))) × (now (self .entry) .count < length (places (now (self .entry))))) ⌝ }
+    {
+        self.count >= self.size()
+    }
+
+    // one element more, where there is room
+    fn put(&mut self, x: T)
+        requires { ⌜ now self .count < length (places (now self)) ⌝ }
+        ensures items { λ _. ⌜ items (now (self .exit)) ≡ items (now (self .entry)) ++ x ∷ [] ⌝ }
+        ensures places { λ _. ⌜ places (now (self .exit)) ≡ set (places (now (self .entry))) (length (items (now (self .entry)))) x ⌝ }
+        ensures lender { λ _. ⌜ name (now (self .exit) .memory) ≡ name (now (self .entry) .memory) ⌝ }
+    {
+        self.memory[self.count] = x;
+        self.count += 1;
+    }
+
+    // other elements, where there is room for them
+    fn refill(&mut self, elements: &[T])
+        requires { ⌜ length (now elements) ≤ length (places (now self)) ⌝ }
+        ensures items { λ _. ⌜ items (now (self .exit)) ≡ now (elements .entry) ⌝ }
+        ensures places { λ _. ⌜ places (now (self .exit)) ≡ over (now (elements .entry)) (places (now (self .entry))) ⌝ }
+        ensures lender { λ _. ⌜ name (now (self .exit) .memory) ≡ name (now (self .entry) .memory) ⌝ }
+    {
+        for (i, x) in elements.iter().enumerate() {
+            self.memory[i] = *x;
+        }
+        self.count = elements.len();
     }
 }

@@ -7,32 +7,26 @@ use native.Mathlib.Omega.{arith}
 use lib.ListN.{length, drop, getD, length-drop}
 use Rattle.std.specs.declared.cmp.Ordering.{Ordering}
 use Rattle.std.specs.declared.cmp.Ordering.the-variants.{Less, Equal, Greater}
-use Rattle.std.specs.Orderings.{Ranked, thenBy}
+use Rattle.std.specs.Orderings.{thenBy}
 use Rattle.std.proofs.shelf.Lists.{drop-more}
+use Rattle.std.proofs.shelf.Ways.{tells}
+use Rattle.letter_order.specs.Orders.{by-value}
 use Rattle.lyndon.specs.Words.{dictionary}
 
 -- where one of two words has ended, their lengths decide
-by-length : {A : Type 0} (ranks : A → A → Ordering) (u v : List A) → min (length u) (length v) ≡ 0 → (r : Ordering) → Ranked r (length u < length v) (length u ≡ length v) (length v < length u) → r ≡ dictionary ranks u v
-by-length ranks [] [] e Less h = absurd (omega arith)
-by-length ranks [] [] e Equal h = refl
-by-length ranks [] [] e Greater h = absurd (omega arith)
-by-length ranks [] (y ∷ v) e Less h = refl
-by-length ranks [] (y ∷ v) e Equal h = absurd (omega arith)
-by-length ranks [] (y ∷ v) e Greater h = absurd (omega arith)
-by-length ranks (x ∷ u) [] e Less h = absurd (omega arith)
-by-length ranks (x ∷ u) [] e Equal h = absurd (omega arith)
-by-length ranks (x ∷ u) [] e Greater h = refl
-by-length ranks (x ∷ u) (y ∷ v) e r h = absurd (omega arith)
+by-length : {A : Type 0} (ranks : A → A → Ordering) (u v : List A) → min (length u) (length v) ≡ 0 → by-value (length u) (length v) ≡ dictionary ranks u v
+by-length ranks [] [] e = refl
+by-length ranks [] (y ∷ v) e = grind (arith, tells)
+by-length ranks (x ∷ u) [] e = grind (arith, tells)
+by-length ranks (x ∷ u) (y ∷ v) e = absurd (omega arith)
 
-shorter-by : (r : Ordering) (i m n k l : ℕ) → i ≤ m → i ≤ n → k ≡ m - i → l ≡ n - i → Ranked r (m < n) (m ≡ n) (n < m) → Ranked r (k < l) (k ≡ l) (l < k)
-shorter-by Less i m n k l a b c d h = omega arith
-shorter-by Equal i m n k l a b c d h = omega arith
-shorter-by Greater i m n k l a b c d h = omega arith
+shorter-by : (i m n : ℕ) → i ≤ m → i ≤ n → by-value (m - i) (n - i) ≡ by-value m n
+shorter-by i m n h k = grind (arith, tells)
 
-decides-alone : (r s : Ordering) → (r ≡ Equal → ⊥) → thenBy r s ≡ r
-decides-alone Less s h = refl
-decides-alone Equal s h = absurd (h refl)
-decides-alone Greater s h = refl
+decides-alone : (r s t : Ordering) → (r ≡ Equal → ⊥) → thenBy r s ≡ thenBy r t
+decides-alone Less s t h = refl
+decides-alone Equal s t h = absurd (h refl)
+decides-alone Greater s t h = refl
 
 -- the words from a place on decide
 module _ {A : Type 0} (ranks : A → A → Ordering) (u v : List A) (i : ℕ) (left : dictionary ranks (drop i u) (drop i v) ≡ dictionary ranks u v) where
@@ -46,12 +40,14 @@ module _ {A : Type 0} (ranks : A → A → Ordering) (u v : List A) (i : ℕ) (l
     pub same-letter : ranks x y ≡ Equal → dictionary ranks (drop (i + 1) u) (drop (i + 1) v) ≡ dictionary ranks u v
     same-letter e = sym (letters ∙ ap (λ r. thenBy r (dictionary ranks (drop (i + 1) u) (drop (i + 1) v))) e)
 
-    pub other-letter : (r : Ordering) → r ≡ ranks x y → (r ≡ Equal → ⊥) → r ≡ dictionary ranks u v
-    other-letter r e h =
-        sym (letters ∙ ap (λ s. thenBy s (dictionary ranks (drop (i + 1) u) (drop (i + 1) v))) (sym e) ∙ decides-alone r _ h)
+    pub other-letter : (r s : Ordering) → r ≡ ranks x y → (r ≡ Equal → ⊥) → thenBy r s ≡ dictionary ranks u v
+    other-letter r s e h =
+        sym (letters ∙ ap (λ t. thenBy t (dictionary ranks (drop (i + 1) u) (drop (i + 1) v))) (sym e) ∙ decides-alone r _ s h)
 
-  pub no-letter : i ≡ min (length u) (length v) → (r : Ordering) → Ranked r (length u < length v) (length u ≡ length v) (length v < length u) → r ≡ dictionary ranks u v
-  no-letter e r h =
-      by-length ranks (drop i u) (drop i v) (simp length-drop (omega arith)) r
-      (shorter-by r i (length u) (length v) (length (drop i u)) (length (drop i v)) (omega arith) (omega arith) (length-drop i u) (length-drop i v) h)
+  pub no-letter : i ≡ min (length u) (length v) → by-value (length u) (length v) ≡ dictionary ranks u v
+  no-letter e =
+      sym (shorter-by i (length u) (length v) (omega arith) (omega arith))
+      ∙ ap (λ n. by-value n (length v - i)) (sym (length-drop i u))
+      ∙ ap (by-value (length (drop i u))) (sym (length-drop i v))
+      ∙ by-length ranks (drop i u) (drop i v) (simp length-drop (omega arith))
       ∙ left

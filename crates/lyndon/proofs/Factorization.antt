@@ -31,7 +31,6 @@ module _ {A : Type 0} {ranks : A → A → Ordering} (o : TotalOrder ranks) wher
   -- ---- it exists
 
   merged-factors : (l : List A) (fs : List (List A)) → Lyndon ranks l → Each (Lyndon ranks) fs → Falling ranks fs → Factors ranks (l ++ joined fs) (merged ranks l fs)
-  unfolding merged
   merged-factors l [] L F h = record { whole = refl; lyndon = (L, tt); falls = tt }
   merged-factors l (f ∷ fs) L F h =
       go (dictionary ranks l f) refl (λ k. merged-factors (l ++ f) fs (join o l f L (F .0) k) (F .1) (falling-tail f fs h))
@@ -45,7 +44,6 @@ module _ {A : Type 0} {ranks : A → A → Ordering} (o : TotalOrder ranks) wher
       go Greater e more = apart (λ k. greater-less (sym e ∙ k))
 
   pub factored : (w : List A) → Factors ranks w (factors ranks w)
-  unfolding factors
   factored [] = record { whole = refl; lyndon = tt; falls = tt }
   factored (x ∷ w) =
       let F = factored w in

@@ -44,18 +44,15 @@ module _ {A : Type 0} {ranks : A → A → Ordering} (o : TotalOrder ranks) wher
   -- ---- the test for Lyndon words
 
   leads-each : (w s : List A) → leads ranks w s ≡ true → (i : ℕ) → i < length s → Before ranks w (drop i s)
-  unfolding leads
   leads-each w [] h i k = absurd (omega arith)
   leads-each w (x ∷ s) h zero k = before-test (dictionary ranks w (x ∷ s)) (and-parts _ _ h .0)
   leads-each w (x ∷ s) h (suc i) k = leads-each w s (and-parts _ _ h .1) i (omega arith)
 
   leads-all : (w s : List A) → ((i : ℕ) → i < length s → Before ranks w (drop i s)) → leads ranks w s ≡ true
-  unfolding leads
   leads-all w [] f = refl
   leads-all w (x ∷ s) f = and-from _ _ (ap isLt (f 0 (omega arith))) (leads-all w s (λ i h. f (suc i) (omega arith)))
 
   pub tested : Tested ranks
-  unfolding is-lyndon
   tested [] = (λ h. absurd (false-true h), λ L. absurd (omega (arith, L .some)))
   tested (x ∷ w) =
       (λ h. record { some = omega arith; least = below h }, λ L. leads-all (x ∷ w) w (λ i h. L .least (suc i) (omega arith) (omega arith)))
@@ -67,7 +64,6 @@ module _ {A : Type 0} {ranks : A → A → Ordering} (o : TotalOrder ranks) wher
   -- ---- the longest suffix that is Lyndon
 
   pub ahead-lyndon : (w : List A) → 0 < length w → Lyndon ranks (drop (ahead ranks w) w)
-  unfolding ahead
   ahead-lyndon [] h = absurd (omega arith)
   ahead-lyndon (x ∷ w) h = go (is-lyndon ranks (x ∷ w)) refl (ahead-lyndon w)
     where
@@ -80,7 +76,6 @@ module _ {A : Type 0} {ranks : A → A → Ordering} (o : TotalOrder ranks) wher
       go false e more = more (some w e)
 
   pub ahead-longest : (w : List A) (i : ℕ) → Lyndon ranks (drop i w) → ahead ranks w ≤ i
-  unfolding ahead
   ahead-longest [] i L = omega arith
   ahead-longest (x ∷ w) zero L = rw (tested (x ∷ w) .1 L) (omega arith)
   ahead-longest (x ∷ w) (suc i) L =

@@ -90,7 +90,6 @@ module _ {A : Type 0} {ranks : A → A → Ordering} (o : TotalOrder ranks) wher
 
   -- a word of two letters or more, Lyndon or not, is split there
   pub split-there : (w : List A) → 2 ≤ length w → Split ranks w (take (split-place ranks w) w) (drop (split-place ranks w) w)
-  unfolding split-place
   split-there [] h = absurd (omega arith)
   split-there (x ∷ w) h = record {
     whole = ap (λ z. x ∷ z) (sym (take-append-drop (ahead ranks w) w));
@@ -104,7 +103,6 @@ module _ {A : Type 0} {ranks : A → A → Ordering} (o : TotalOrder ranks) wher
       longest (suc i) k L = omega (arith, ahead-longest o w i L, length-take (ahead ranks w) w)
 
   pub split-lowest : (w : List A) → 2 ≤ length w → (q t : List A) → 0 < length q → 0 < length t → w ≡ q ++ t → Before ranks t (drop (split-place ranks w) w) → ⊥
-  unfolding split-place
   split-lowest [] h q t hq ht e = absurd (omega arith)
   split-lowest (x ∷ w) h [] t hq ht e = absurd (omega arith)
   split-lowest (x ∷ w) h (y ∷ q) t hq ht e = ahead-lowest w (omega arith) q t (cc) ht

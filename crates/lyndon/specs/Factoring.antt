@@ -7,29 +7,29 @@ use Rattle.std.specs.Orderings.{isLt}
 use Rattle.lyndon.specs.Words.{dictionary}
 
 -- the Lyndon word l in front of factors: it takes in the first of them as long as that is greater
-unfoldable pub merged : {A : Type 0} → (A → A → Ordering) → List A → List (List A) → List (List A)
+abbrev pub merged : {A : Type 0} → (A → A → Ordering) → List A → List (List A) → List (List A)
 merged ranks l [] = l ∷ []
 merged ranks l (f ∷ fs) = cond (isLt (dictionary ranks l f)) (merged ranks (l ++ f) fs) (l ∷ f ∷ fs)
 
-unfoldable pub factors : {A : Type 0} → (A → A → Ordering) → List A → List (List A)
+abbrev pub factors : {A : Type 0} → (A → A → Ordering) → List A → List (List A)
 factors ranks [] = []
 factors ranks (x ∷ w) = merged ranks (x ∷ []) (factors ranks w)
 
 -- is w before s and each shorter non-empty suffix of s?
-unfoldable pub leads : {A : Type 0} → (A → A → Ordering) → List A → List A → Bool
+abbrev pub leads : {A : Type 0} → (A → A → Ordering) → List A → List A → Bool
 leads ranks w [] = true
 leads ranks w (x ∷ s) = isLt (dictionary ranks w (x ∷ s)) && leads ranks w s
 
-unfoldable pub is-lyndon : {A : Type 0} → (A → A → Ordering) → List A → Bool
+abbrev pub is-lyndon : {A : Type 0} → (A → A → Ordering) → List A → Bool
 is-lyndon ranks [] = false
 is-lyndon ranks (x ∷ w) = leads ranks (x ∷ w) w
 
 -- how many letters stand before the longest suffix that is Lyndon
-unfoldable pub ahead : {A : Type 0} → (A → A → Ordering) → List A → ℕ
+abbrev pub ahead : {A : Type 0} → (A → A → Ordering) → List A → ℕ
 ahead ranks [] = 0
 ahead ranks (x ∷ w) = cond (is-lyndon ranks (x ∷ w)) 0 (suc (ahead ranks w))
 
 -- how many letters the left part of the split has
-unfoldable pub split-place : {A : Type 0} → (A → A → Ordering) → List A → ℕ
+abbrev pub split-place : {A : Type 0} → (A → A → Ordering) → List A → ℕ
 split-place ranks [] = 0
 split-place ranks (x ∷ w) = suc (ahead ranks w)

@@ -33,7 +33,6 @@ length-repeated (suc count) f =
     omega (arith, length-append f (joined (replicate count f)), length-repeated count f, suc-mul count (length f))
 
 pub empty-not-lyndon : {A : Type 0} (ranks : A → A → Ordering) (w : List A) → length w ≡ 0 → false ≡ is-lyndon ranks w
-unfolding is-lyndon
 empty-not-lyndon ranks w h = ap (is-lyndon ranks) (sym (nil-from-length w h))
 
 module _ {A : Type 0} {ranks : A → A → Ordering} (o : TotalOrder ranks) (w : List A) (period count : ℕ) (R : LeadingRun ranks w period count) where

@@ -37,5 +37,4 @@ module _ {A : Type 0} (ranks : A → A → Ordering) (w : List A) (from period c
       }
 
 pub none-left : {A : Type 0} (ranks : A → A → Ordering) (w : List A) (from : ℕ) → length w ≤ from → factors ranks (drop from w) ≡ []
-unfolding factors
 none-left ranks w from h = ap (factors ranks) (drop-all from w h)

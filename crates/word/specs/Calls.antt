@@ -58,8 +58,11 @@ paced place period (suc count) = place ∷ paced (place + period) period count
 
 -- ---- split
 
--- the two parts of the split, or none for a single letter; 18 where the word is not Lyndon
+-- the two parts of the split, or none for a single letter
+abbrev pub split-parts : {A : Type 0} → (A → A → Ordering) → List A → Option (List A × List A)
+split-parts ranks w = cond (ltb (length w) 2) None (cut-at (split-place ranks w) w)
+
+-- 18 where the word is not Lyndon
 abbrev pub split-outcome : {A : Type 0} → (A → A → Ordering) → List A → Outcome (Option (List A × List A))
 split-outcome ranks w =
-    unless-long (length w)
-    (refuse-if (not (is-lyndon ranks w)) (found 18 Word 0 0) (answered (cond (ltb 1 (length w)) (cut-at (split-place ranks w) w) None)))
+    unless-long (length w) (refuse-if (not (is-lyndon ranks w)) (found 18 Word 0 0) (answered (split-parts ranks w)))

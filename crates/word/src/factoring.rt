@@ -2,6 +2,7 @@
 ghost use mathlib.Core.Path.{_≡_};
 ghost use mathlib.Core.List.{_++_};
 ghost use Prim.Native.Nat.{_+_, _*_, _≤_, _<_};
+ghost use lib.Dec.{leb};
 ghost use lib.ListN.{length};
 ghost use denote.Ref.{name};
 ghost use Rattle.std.specs.Results.{Cases};
@@ -9,12 +10,10 @@ ghost use Rattle.fault.specs.Outcome.{told};
 ghost use Rattle.lent_list.specs.Lent.{items, places, over};
 ghost use Rattle.lyndon.specs.Factoring.{factors};
 ghost use Rattle.lyndon.specs.Theorems.{Factorizations};
-ghost use Rattle.word.specs.Calls.{shown, first-outcome, factor-outcome, starts-of, paced};
+ghost use Rattle.word.specs.Calls.{shown, cut-behind, first-outcome, factor-outcome, starts-of, paced};
 ghost use Rattle.word.specs.Faults.{word-fault};
 use crate::LONGEST;
 use crate::fault::WordFault;
-use crate::fault::WordFromFull;
-use crate::fault::check_room;
 use crate::run::Run;
 use crate::run::leading_run;
 use lent_list::LentList;
@@ -31,40 +30,7 @@ pub fn first<'a, L, O: Order<L>>(
     if word.len() > LONGEST {
         return Err(WordFault::LongWord);
     }
-    if word.is_empty() {
-        return Ok(None);
-    }
-    let run = leading_run(order, word);
-    Ok(Some(word.split_at(run.period)))
-}
-
-/// How many factors a word has.
-fn count_factors<L, O: Order<L>>(order: &O, word: &[L]) -> usize
-    ensures { λ r. ⌜ r ≡ length (factors (ranks (now (order .entry))) (now (word .entry))) ⌝ }
-{
-    let mut count = 0;
-    let mut from = 0;
-    while from < word.len() {
-        let run = leading_run(order, &word[from..]);
-        count += run.count;
-        from += run.count * run.period;
-    }
-    count
-}
-
-/// Puts the starts of equal factors, the first of which begins at `from`, behind the others.
-fn push_starts(starts: &mut LentList<u16>, from: usize, run: Run) -> Result<(), WordFault>
-    requires { ⌜ from + run .count * run .period ≤ 65535 ⌝ }
-    ensures done { λ r. ⌜ Cases r
-        (λ _. (items (now (starts .exit)) ≡ items (now (starts .entry)) ++ paced from (run .period) (run .count))
-        × (places (now (starts .exit)) ≡ over (items (now (starts .exit))) (places (now (starts .entry)))))
-        (λ _. length (places (now (starts .entry))) < length (items (now (starts .entry))) + run .count) ⌝ }
-    ensures lender { λ _. ⌜ name (now (starts .exit) .memory) ≡ name (now (starts .entry) .memory) ⌝ }
-{
-    for i in 0..run.count {
-        starts.push((from + i * run.period) as u16)?;
-    }
-    Ok(())
+    Ok(cut_first(order, word))
 }
 
 /// Replaces the contents of a list by the starts of the factors of a word, and answers how many there are.
@@ -84,16 +50,76 @@ pub fn factor<L, O: Order<L>>(
     if word.len() > LONGEST {
         return Err(WordFault::LongWord);
     }
-    // a word has no more factors than letters, so that only a short memory asks for their number
-    if starts.size() < word.len() {
-        check_room(starts.size(), count_factors(order, word))?;
+    if !fits(order, word, starts.size()) {
+        return Err(WordFault::ShortMemory);
     }
+    Ok(list_starts(order, word, starts))
+}
+
+/// A word cut behind its first factor.
+fn cut_first<'a, L, O: Order<L>>(order: &O, word: &'a [L]) -> Option<(&'a [L], &'a [L])>
+    ensures parts { λ r. ⌜ shown r ≡ cut-behind (now (word .entry)) (factors (ranks (now (order .entry))) (now (word .entry))) ⌝ }
+    ensures factorizations { λ _. ⌜ Factorizations (ranks (now (order .entry))) ⌝ }
+{
+    if word.is_empty() {
+        return None;
+    }
+    let run = leading_run(order, word);
+    Some(word.split_at(run.period))
+}
+
+/// Whether a list of this size holds the starts of the factors of a word.
+fn fits<L, O: Order<L>>(order: &O, word: &[L], size: usize) -> bool
+    ensures answer { λ r. ⌜ r ≡ leb (length (factors (ranks (now (order .entry))) (now (word .entry)))) size ⌝ }
+    ensures factorizations { λ _. ⌜ Factorizations (ranks (now (order .entry))) ⌝ }
+{
+    // a word has no more factors than letters, so that only a short list asks for their number
+    word.len() <= size || count_factors(order, word) <= size
+}
+
+/// How many factors a word has.
+fn count_factors<L, O: Order<L>>(order: &O, word: &[L]) -> usize
+    ensures { λ r. ⌜ r ≡ length (factors (ranks (now (order .entry))) (now (word .entry))) ⌝ }
+{
+    let mut count = 0;
+    let mut from = 0;
+    while from < word.len() {
+        let run = leading_run(order, &word[from..]);
+        count += run.count;
+        from += run.count * run.period;
+    }
+    count
+}
+
+/// Puts the starts of equal factors, the first of which begins at `from`, behind the others.
+fn push_starts(starts: &mut LentList<u16>, from: usize, run: Run)
+    requires last { ⌜ from + run .count * run .period ≤ 65535 ⌝ }
+    requires room { ⌜ length (items (now starts)) + run .count ≤ length (places (now starts)) ⌝ }
+    ensures items { λ _. ⌜ items (now (starts .exit)) ≡ items (now (starts .entry)) ++ paced from (run .period) (run .count) ⌝ }
+    ensures places { λ _. ⌜ places (now (starts .exit)) ≡ over (items (now (starts .exit))) (places (now (starts .entry))) ⌝ }
+    ensures lender { λ _. ⌜ name (now (starts .exit) .memory) ≡ name (now (starts .entry) .memory) ⌝ }
+{
+    for i in 0..run.count {
+        // there is room
+        let _ = starts.push((from + i * run.period) as u16);
+    }
+}
+
+/// Replaces the contents of a list that is large enough by the starts of the factors of a word.
+fn list_starts<L, O: Order<L>>(order: &O, word: &[L], starts: &mut LentList<u16>) -> usize
+    requires few { ⌜ length (now word) ≤ 65535 ⌝ }
+    requires room { ⌜ length (factors (ranks (now order)) (now word)) ≤ length (places (now starts)) ⌝ }
+    ensures count { λ r. ⌜ r ≡ length (factors (ranks (now (order .entry))) (now (word .entry))) ⌝ }
+    ensures items { λ _. ⌜ items (now (starts .exit)) ≡ starts-of (ranks (now (order .entry))) (now (word .entry)) ⌝ }
+    ensures places { λ _. ⌜ places (now (starts .exit)) ≡ over (starts-of (ranks (now (order .entry))) (now (word .entry))) (places (now (starts .entry))) ⌝ }
+    ensures lender { λ _. ⌜ name (now (starts .exit) .memory) ≡ name (now (starts .entry) .memory) ⌝ }
+{
     starts.clear();
     let mut from = 0;
     while from < word.len() {
         let run = leading_run(order, &word[from..]);
-        push_starts(starts, from, run)?;
+        push_starts(starts, from, run);
         from += run.count * run.period;
     }
-    Ok(starts.count())
+    starts.count()
 }

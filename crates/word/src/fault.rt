@@ -2,10 +2,8 @@
 ghost use mathlib.Core.Path.{_≡_};
 ghost use Rattle.fault.specs.Outcome.{told};
 ghost use Rattle.word.specs.Faults.{word-fault, room-checked};
-ghost use Rattle.word.specs.declared.fault.WordFault.the-variants.{ShortMemory};
 use fault::Fault;
 use fault::Layer;
-use lent_list::Full;
 
 #[derive(Clone, Copy, PartialEq, Eq, Debug)]
 pub enum WordFault {
@@ -28,14 +26,6 @@ impl WordFault {
             WordFault::NotLyndon => 18,
         };
         Fault::found(number, Layer::Word, 0, 0)
-    }
-}
-
-pub impl From<Full> for WordFault as WordFromFull {
-    ghost converts = { λ _ r. r ≡ ShortMemory };
-
-    fn from(_full: Full) -> WordFault {
-        WordFault::ShortMemory
     }
 }
 

@@ -8,7 +8,6 @@ mod splitting;
 pub use factoring::factor;
 pub use factoring::first;
 pub use fault::WordFault;
-pub use fault::WordFromFull;
 pub use fault::check_room;
 pub use splitting::split;
 

@@ -5,18 +5,49 @@ ghost use lib.ListN.{length};
 ghost use Rattle.fault.specs.Outcome.{told};
 ghost use Rattle.lyndon.specs.Factoring.{is-lyndon, ahead};
 ghost use Rattle.lyndon.specs.Theorems.{Splits, Tested};
-ghost use Rattle.word.specs.Calls.{shown, split-outcome};
+ghost use Rattle.word.specs.Calls.{shown, split-parts, split-outcome};
 ghost use Rattle.word.specs.Faults.{word-fault};
 use crate::LONGEST;
 use crate::fault::WordFault;
 use crate::run::leading_run;
 use letter_order::Order;
 
+/// The two parts of a Lyndon word, cut before its longest proper suffix that is Lyndon, or none for a single letter.
+pub fn split<'a, L, O: Order<L>>(
+    order: &O,
+    word: &'a [L],
+) -> Result<Option<(&'a [L], &'a [L])>, WordFault>
+    ensures answer { λ r. ⌜ told shown word-fault r ≡ split-outcome (ranks (now (order .entry))) (now (word .entry)) ⌝ }
+    ensures lyndon { λ _. ⌜ Tested (ranks (now (order .entry))) ⌝ }
+    ensures splits { λ _. ⌜ Splits (ranks (now (order .entry))) ⌝ }
+{
+    if word.len() > LONGEST {
+        return Err(WordFault::LongWord);
+    }
+    if !is_lyndon(order, word) {
+        return Err(WordFault::NotLyndon);
+    }
+    Ok(cut_parts(order, word))
+}
+
 /// Whether a word is a Lyndon word: its first factor is all of it.
 fn is_lyndon<L, O: Order<L>>(order: &O, word: &[L]) -> bool
-    ensures { λ r. ⌜ r ≡ is-lyndon (ranks (now (order .entry))) (now (word .entry)) ⌝ }
+    ensures answer { λ r. ⌜ r ≡ is-lyndon (ranks (now (order .entry))) (now (word .entry)) ⌝ }
+    ensures lyndon { λ _. ⌜ Tested (ranks (now (order .entry))) ⌝ }
+    ensures splits { λ _. ⌜ Splits (ranks (now (order .entry))) ⌝ }
 {
     !word.is_empty() && leading_run(order, word).period == word.len()
+}
+
+/// A word of two or more letters, cut before its longest proper suffix that is Lyndon.
+fn cut_parts<'a, L, O: Order<L>>(order: &O, word: &'a [L]) -> Option<(&'a [L], &'a [L])>
+    ensures { λ r. ⌜ shown r ≡ split-parts (ranks (now (order .entry))) (now (word .entry)) ⌝ }
+{
+    if word.len() < 2 {
+        return None;
+    }
+    let place = 1 + last_factor(order, &word[1..]);
+    Some(word.split_at(place))
 }
 
 /// Where the last factor of a word begins: it is the longest suffix that is Lyndon.
@@ -34,26 +65,4 @@ fn last_factor<L, O: Order<L>>(order: &O, word: &[L]) -> usize
         }
         from = next;
     }
-}
-
-/// The two parts of a Lyndon word, cut before its longest proper suffix that is Lyndon, or none for a single letter.
-pub fn split<'a, L, O: Order<L>>(
-    order: &O,
-    word: &'a [L],
-) -> Result<Option<(&'a [L], &'a [L])>, WordFault>
-    ensures answer { λ r. ⌜ told shown word-fault r ≡ split-outcome (ranks (now (order .entry))) (now (word .entry)) ⌝ }
-    ensures lyndon { λ _. ⌜ Tested (ranks (now (order .entry))) ⌝ }
-    ensures splits { λ _. ⌜ Splits (ranks (now (order .entry))) ⌝ }
-{
-    if word.len() > LONGEST {
-        return Err(WordFault::LongWord);
-    }
-    if !is_lyndon(order, word) {
-        return Err(WordFault::NotLyndon);
-    }
-    if word.len() < 2 {
-        return Ok(None);
-    }
-    let place = 1 + last_factor(order, &word[1..]);
-    Ok(Some(word.split_at(place)))
 }

@@ -1,7 +1,7 @@
 use mathlib.Core.Path.{_≡_}
 use lib.ListN.{drop}
 use Rattle.lyndon.specs.Words.{dictionary}
-use Rattle.lyndon.proofs.compare_words.Given as given
+use Rattle.lyndon.proofs.compare_letters.Given as given
 
 -- what is left decides
 abbrev pub Inv-loop-i : given.InvT-loop-i

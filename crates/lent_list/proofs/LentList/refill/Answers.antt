@@ -2,7 +2,7 @@ use mathlib.Core.Path.{ap, _∙_}
 use native.Mathlib.Omega.{arith}
 use lib.ListN.{length, set, length-append, length-take, length-drop}
 use Rattle.lent_list.proofs.Copying.{copied-more, copied-all}
-use Rattle.lent_list.proofs.LentList.replace.Needs as need
+use Rattle.lent_list.proofs.LentList.refill.Needs as need
 
 pub index-self-i : need.index-self-i
 index-self-i g c =
@@ -13,12 +13,11 @@ pub loop-i-again : need.loop-i-again
 loop-i-again g c =
     let i = c .loop-i .i in
     let x = c .index-elements-i .result in (
-      ap (λ l. set l i x) (c .loop-i .inv .0)
-          ∙ copied-more (c .args .elements .now) (c .args .self .now .memory .now) i x (c .loop-i-test .taken) (c .if-elements-self .left) (c .index-elements-i .is),
+      ap (λ l. set l i x) (c .loop-i .inv .0) ∙ copied-more (c .args .elements .now) (c .args .self .now .memory .now) i x (c .loop-i-test .taken) (c .pre) (c .index-elements-i .is),
       c .loop-i .inv .1,
     )
 
 pub returns : need.returns
 returns g c =
     let all = copied-all (c .args .elements .now) (c .args .self .now .memory .now) (c .loop-i .i) (c .loop-i .self .memory .now) (omega arith) (c .loop-i .inv .0) in
-    record { done = (c .if-elements-self .left, all .1, all .0); lender = c .loop-i .inv .1 }
+    record { items = all .1; places = all .0; lender = c .loop-i .inv .1 }

@@ -1,7 +1,7 @@
 use mathlib.Core.Path.{_≡_}
 use mathlib.Core.List.{_++_}
 use lib.ListN.{take, drop}
-use Rattle.lent_list.proofs.LentList.replace.Given as given
+use Rattle.lent_list.proofs.LentList.refill.Given as given
 
 -- the first i places are written
 abbrev pub Inv-loop-i : given.InvT-loop-i
