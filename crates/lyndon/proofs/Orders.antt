@@ -1,11 +1,13 @@
 -- What follows from the laws of an order.
 use mathlib.Core.Path.{_≡_, refl, sym, ap, _∙_}
+use mathlib.Core.Bool.{true, false}
 use mathlib.Core.Logic.{_⊎_, inl, inr}
 use Prim.Native.Nat.{ℕ}
 use native.Mathlib.Omega.{arith}
+use borrow.Author.Tests.{clash}
 use Rattle.std.specs.declared.cmp.Ordering.{Ordering}
 use Rattle.std.specs.declared.cmp.Ordering.the-variants.{Less, Equal, Greater}
-use Rattle.std.specs.Orderings.{reversed}
+use Rattle.std.specs.Orderings.{isLt, reversed}
 use Rattle.letter_order.specs.Orders.{TotalOrder}
 
 -- before, the same or after
@@ -21,7 +23,22 @@ greater-less h = let z : _≡_ {A = ℕ} 0 1 = cc in omega arith
 pub greater-equal : Greater ≡ Equal → ⊥
 greater-equal h = let z : _≡_ {A = ℕ} 0 1 = cc in omega arith
 
+-- what a test for before says
+pub is-before : (r : Ordering) → isLt r ≡ true → r ≡ Less
+is-before Less h = refl
+is-before Equal h = absurd (clash h)
+is-before Greater h = absurd (clash h)
+
 module _ {A : Type 0} {ranks : A → A → Ordering} (o : TotalOrder ranks) where
+  -- neither is before the other
+  pub neither-before : (x y : A) → isLt (ranks x y) ≡ false → isLt (ranks y x) ≡ false → ranks x y ≡ Equal
+  neither-before x y h k = go (ranks x y) refl
+    where
+      go : (r : Ordering) → ranks x y ≡ r → r ≡ Equal
+      go Less e = absurd (clash (sym h ∙ ap isLt e))
+      go Equal e = refl
+      go Greater e = absurd (clash (sym k ∙ ap isLt (o .exchanged x y ∙ ap reversed e)))
+
   pub not-itself : (x : A) → ranks x x ≡ Less → ⊥
   not-itself x h = equal-less (sym (o .same x x .1 refl) ∙ h)
 

@@ -5,6 +5,7 @@ use mathlib.Core.List.{List, [], _∷_, _++_, append-assoc, append-nil}
 use mathlib.Core.Logic.{_⊎_, inl, inr}
 use Prim.Native.Nat.{ℕ, zero, suc, _+_, _-_, _≤_, _<_}
 use native.Mathlib.Omega.{arith}
+use borrow.Author.Tests.{clash}
 use lib.ListN.{length, take, drop, length-append, length-drop, take-append-drop}
 use lib.Seq.{drop-append-seam, take-append-seam, drop-append-le, length-take-le}
 use Rattle.std.specs.declared.cmp.Ordering.{Ordering}
@@ -15,6 +16,7 @@ use Rattle.letter_order.specs.Orders.{TotalOrder}
 use Rattle.lyndon.specs.Words.{dictionary, Before, Lyndon, Each, Factors, Split, joined}
 use Rattle.lyndon.specs.Factoring.{factors, leads, is-lyndon, ahead, split-place}
 use Rattle.lyndon.specs.Theorems.{LongestPrefix, LeastSuffix, OneFactorization, Factorizations, OneSplit, Splits, Tested}
+use Rattle.lyndon.proofs.Orders.{is-before}
 use Rattle.lyndon.proofs.Dictionary.{Apart, asym, compared, unfront, apart-before, apart-append, before-cases}
 use Rattle.lyndon.proofs.LyndonWords.{suffix, from-cuts, single}
 use Rattle.lyndon.proofs.Factorization.{factored, only, first-longest, last-least}
@@ -22,14 +24,6 @@ use Rattle.lyndon.proofs.Factorization.{factored, only, first-longest, last-le
 -- s is the least of the non-empty suffixes of w
 abbrev pub Least : {A : Type 0} → (A → A → Ordering) → List A → List A → Type 0
 Least {A} ranks w s = (q t : List A) → w ≡ q ++ t → 0 < length t → Before ranks t s → ⊥
-
-false-true : false ≡ true → ⊥
-false-true h = let z : _≡_ {A = ℕ} 0 1 = cc in omega arith
-
-before-test : (r : Ordering) → isLt r ≡ true → r ≡ Less
-before-test Less h = refl
-before-test Equal h = absurd (false-true h)
-before-test Greater h = absurd (false-true h)
 
 -- every sequence but the empty one has a last word
 pub ended : {X : Type 0} (x : X) (xs : List X) → (ys : List X) × (y : X) × (x ∷ xs ≡ ys ++ y ∷ [])
@@ -45,7 +39,7 @@ module _ {A : Type 0} {ranks : A → A → Ordering} (o : TotalOrder ranks) wher
 
   leads-each : (w s : List A) → leads ranks w s ≡ true → (i : ℕ) → i < length s → Before ranks w (drop i s)
   leads-each w [] h i k = absurd (omega arith)
-  leads-each w (x ∷ s) h zero k = before-test (dictionary ranks w (x ∷ s)) (and-parts _ _ h .0)
+  leads-each w (x ∷ s) h zero k = is-before (dictionary ranks w (x ∷ s)) (and-parts _ _ h .0)
   leads-each w (x ∷ s) h (suc i) k = leads-each w s (and-parts _ _ h .1) i (omega arith)
 
   leads-all : (w s : List A) → ((i : ℕ) → i < length s → Before ranks w (drop i s)) → leads ranks w s ≡ true
@@ -53,7 +47,7 @@ module _ {A : Type 0} {ranks : A → A → Ordering} (o : TotalOrder ranks) wher
   leads-all w (x ∷ s) f = and-from _ _ (ap isLt (f 0 (omega arith))) (leads-all w s (λ i h. f (suc i) (omega arith)))
 
   pub tested : Tested ranks
-  tested [] = (λ h. absurd (false-true h), λ L. absurd (omega (arith, L .some)))
+  tested [] = (λ h. absurd (clash h), λ L. absurd (omega (arith, L .some)))
   tested (x ∷ w) =
       (λ h. record { some = omega arith; least = below h }, λ L. leads-all (x ∷ w) w (λ i h. L .least (suc i) (omega arith) (omega arith)))
     where
@@ -68,7 +62,7 @@ module _ {A : Type 0} {ranks : A → A → Ordering} (o : TotalOrder ranks) wher
   ahead-lyndon (x ∷ w) h = go (is-lyndon ranks (x ∷ w)) refl (ahead-lyndon w)
     where
       some : (v : List A) → is-lyndon ranks (x ∷ v) ≡ false → 0 < length v
-      some [] e = absurd (false-true (sym e ∙ tested (x ∷ []) .1 (single o x)))
+      some [] e = absurd (clash (sym e ∙ tested (x ∷ []) .1 (single o x)))
       some (y ∷ v) e = omega arith
 
       go : (b : Bool) → is-lyndon ranks (x ∷ w) ≡ b → (0 < length w → Lyndon ranks (drop (ahead ranks w) w)) → Lyndon ranks (drop (cond b 0 (suc (ahead ranks w))) (x ∷ w))

@@ -21,17 +21,17 @@ pub fn leading_run<L, O: Order<L>>(order: &O, word: &[L]) -> Run
     ensures { λ r. ⌜ LeadingRun (ranks (now (order .entry))) (now (word .entry)) (r .period) (r .count) ⌝ }
 {
     let mut read = 1;
-    // the letter that goes on with the period, if the next letter is the same
-    let mut back = 0;
+    let mut period = 1;
     while read < word.len() {
-        match order.compare(&word[back], &word[read]) {
-            Ordering::Less => back = 0,
-            Ordering::Equal => back += 1,
-            Ordering::Greater => break,
+        let (back, next) = (&word[read - period], &word[read]);
+        if order.before(next, back) {
+            break;
+        }
+        if order.before(back, next) {
+            period = read + 1;
         }
         read += 1;
     }
-    let period = read - back;
     Run {
         period,
         count: read / period,
