@@ -1,8 +1,8 @@
 -- What an outcome shows to a program in another language.
 use mathlib.Core.List.{List}
 use Prim.Native.Nat.{ℕ}
-use Rattle.fault.specs.Outcome.{Outcome}
-use Rattle.fault.specs.Outcome.Outcome.{answered, refused}
+use Rattle.faults.specs.Outcome.{Outcome}
+use Rattle.faults.specs.Outcome.Outcome.{answered, refused}
 use Rattle.lent_list.specs.Lent.{over}
 
 -- the number answered, or 0

@@ -10,11 +10,11 @@ use Rattle.std.specs.declared.cmp.Ordering.{Ordering}
 use Rattle.std.specs.declared.option.Option.{Option}
 use Rattle.std.specs.declared.option.Option.the-variants.{Some, None}
 use Rattle.std.proofs.shelf.Lists.{length-take-le, nil-from-length, take-rest}
-use Rattle.fault.specs.declared.Layer.the-variants.{Word}
-use Rattle.fault.specs.Faults.{found}
-use Rattle.fault.specs.Outcome.{Outcome}
-use Rattle.fault.specs.Outcome.Outcome.{refused}
-use Rattle.fault.proofs.Checks.{refuses}
+use Rattle.faults.specs.declared.Layer.the-variants.{Word}
+use Rattle.faults.specs.Faults.{found}
+use Rattle.faults.specs.Outcome.{Outcome}
+use Rattle.faults.specs.Outcome.Outcome.{refused}
+use Rattle.faults.proofs.Checks.{refuses}
 use Rattle.lyndon.specs.Factoring.{factors, ahead, split-place}
 use Rattle.lyndon.specs.Runs.{LeadingRun}
 use Rattle.word.specs.Calls.{cut-at, cut-behind, split-parts}

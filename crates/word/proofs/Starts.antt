@@ -6,7 +6,6 @@ use native.Mathlib.Nat.{add-zero, mul-le-mul-right, suc-mul, zero-mul}
 use native.Mathlib.Numerals.{add-one}
 use native.Mathlib.Omega.{arith}
 use lib.ListN.{length, take, drop, replicate, length-append, length-drop}
-use Rattle.lent_list.specs.Lent.{over}
 use Rattle.std.specs.declared.cmp.Ordering.{Ordering}
 use Rattle.std.proofs.shelf.Lists.{length-take-le}
 use Rattle.lyndon.specs.Factoring.{factors}
@@ -32,16 +31,6 @@ starts-paced place (suc count) f rest =
 pub length-starts : {A : Type 0} (place : ℕ) (fs : List (List A)) → length (starts-from place fs) ≡ length fs
 length-starts place [] = refl
 length-starts place (f ∷ fs) = ap suc (length-starts (place + length f) fs)
-
--- ---- a list whose elements are `before`, and behind them i starts of a run
-
-module _ (before places items now : List ℕ) (place period i count : ℕ) (are : items ≡ before ++ paced place period i) (stand : now ≡ over items places) (more : i < count) where
-  sizes : length items ≡ length before + i
-  sizes = ap length are ∙ length-append before (paced place period i) ∙ ap (λ n. length before + n) (length-paced place period i)
-
-  -- where it is full, there is no room for all of the run
-  pub no-room : length items ≡ length now → length places < length before + count
-  no-room full = omega (arith, sizes, ap length stand ∙ length-append items (drop (length items) places), length-drop (length items) places)
 
 -- ---- the starts that are listed, and those of what is left of a word
 

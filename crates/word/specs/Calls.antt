@@ -9,10 +9,10 @@ use Rattle.std.specs.Options.{mapped}
 use Rattle.std.specs.declared.cmp.Ordering.{Ordering}
 use Rattle.std.specs.declared.option.Option.{Option}
 use Rattle.std.specs.declared.option.Option.the-variants.{Some, None}
-use Rattle.fault.specs.declared.Layer.the-variants.{Word}
-use Rattle.fault.specs.Faults.{found}
-use Rattle.fault.specs.Outcome.{Outcome, refuse-if}
-use Rattle.fault.specs.Outcome.Outcome.{answered}
+use Rattle.faults.specs.declared.Layer.the-variants.{Word}
+use Rattle.faults.specs.Faults.{found}
+use Rattle.faults.specs.Outcome.{Outcome, refuse-if}
+use Rattle.faults.specs.Outcome.Outcome.{answered}
 use Rattle.lyndon.specs.Factoring.{factors, is-lyndon, split-place}
 use Rattle.word.specs.Faults.{unless-long}
 

@@ -1,11 +1,11 @@
 -- The faults of the word layer.
 use Prim.Native.Nat.{ℕ}
 use lib.Dec.{ltb}
-use Rattle.fault.specs.declared.Fault.{Fault}
-use Rattle.fault.specs.declared.Layer.the-variants.{Word}
-use Rattle.fault.specs.Faults.{found}
-use Rattle.fault.specs.Outcome.{Outcome, refuse-if}
-use Rattle.fault.specs.Outcome.Outcome.{answered}
+use Rattle.faults.specs.declared.Fault.{Fault}
+use Rattle.faults.specs.declared.Layer.the-variants.{Word}
+use Rattle.faults.specs.Faults.{found}
+use Rattle.faults.specs.Outcome.{Outcome, refuse-if}
+use Rattle.faults.specs.Outcome.Outcome.{answered}
 use Rattle.word.specs.declared.fault.WordFault.{WordFault}
 use Rattle.word.specs.declared.fault.WordFault.the-variants.{ShortMemory, LongWord, NotLyndon}
 

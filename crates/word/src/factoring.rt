@@ -6,7 +6,7 @@ ghost use lib.Dec.{leb};
 ghost use lib.ListN.{length};
 ghost use denote.Ref.{name};
 ghost use Rattle.std.specs.Results.{Cases};
-ghost use Rattle.fault.specs.Outcome.{told};
+ghost use Rattle.faults.specs.Outcome.{told};
 ghost use Rattle.lent_list.specs.Lent.{items, places, over};
 ghost use Rattle.lyndon.specs.Factoring.{factors};
 ghost use Rattle.lyndon.specs.Theorems.{Factorizations};

@@ -1,9 +1,9 @@
 //! Why a call on words is refused.
 ghost use mathlib.Core.Path.{_≡_};
-ghost use Rattle.fault.specs.Outcome.{told};
+ghost use Rattle.faults.specs.Outcome.{told};
 ghost use Rattle.word.specs.Faults.{word-fault, room-checked};
-use fault::Fault;
-use fault::Layer;
+use faults::Fault;
+use faults::Layer;
 
 #[derive(Clone, Copy, PartialEq, Eq, Debug)]
 pub enum WordFault {

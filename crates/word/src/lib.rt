@@ -8,6 +8,8 @@ mod splitting;
 pub use factoring::factor;
 pub use factoring::first;
 pub use fault::WordFault;
+pub use fault::WordFaultDebug;
+pub use fault::WordFaultPartialEq;
 pub use fault::check_room;
 pub use splitting::split;
 

@@ -2,7 +2,7 @@
 ghost use mathlib.Core.Path.{_≡_};
 ghost use Prim.Native.Nat.{_<_};
 ghost use lib.ListN.{length};
-ghost use Rattle.fault.specs.Outcome.{told};
+ghost use Rattle.faults.specs.Outcome.{told};
 ghost use Rattle.lyndon.specs.Factoring.{is-lyndon, ahead};
 ghost use Rattle.lyndon.specs.Theorems.{Splits, Tested};
 ghost use Rattle.word.specs.Calls.{shown, split-parts, split-outcome};

@@ -24,9 +24,9 @@ push-starts-requires g c κs =
     let p = passing _ _ _ _ _ (c .loop-from .inv .0) (c .leading-run-run .ensures) in
     let n = listed-length (g .O·Order .ranks (c .args .order .now)) (c .args .word .now) (c .loop-from .from) (items (c .loop-from .starts)) _ (c .loop-from .inv .1) in
     let m = length-starts 0 (factors (g .O·Order .ranks (c .args .order .now)) (c .args .word .now)) in
-    let l = length-over (items (c .loop-from .starts)) (places (c .clear .last .self)) in
     let e = ap length (c .loop-from .inv .2) in
     let k = ap length (c .clear .ensures .places) in
+    let l = length-over (places (c .clear .last .self)) (items (c .loop-from .starts)) (omega (arith, c .pre .room)) in
     record { last = omega arith; room = omega (arith, c .pre .room, p .counted) }
 
 pub loop-from-less : need.loop-from-less
@@ -41,7 +41,7 @@ loop-from-again g c =
     let pushed = c .push-starts .ensures in (
       p .within,
       listed-more (g .O·Order .ranks (c .args .order .now)) (c .args .word .now) (c .loop-from .from) was _ (c .loop-from .inv .1) (r .period) (r .count) now p (pushed .items),
-      pushed .places ∙ ap (over now) (c .loop-from .inv .2) ∙ over-over was now (places (c .clear .last .self)) (omega (arith, ap length (pushed .items), length-append was (paced (c .loop-from .from) (r .period) (r .count)))),
+      pushed .places ∙ ap (over now) (c .loop-from .inv .2) ∙ over-over (places (c .clear .last .self)) was now (omega (arith, ap length (pushed .items), length-append was (paced (c .loop-from .from) (r .period) (r .count)))),
       pushed .lender ∙ c .loop-from .inv .3,
     )
 

@@ -2,7 +2,7 @@
 use mathlib.Core.Bool.{Bool, cond}
 use Rattle.std.specs.declared.result.Result.{Result}
 use Rattle.std.specs.declared.result.Result.the-variants.{Ok, Err}
-use Rattle.fault.specs.declared.Fault.{Fault}
+use Rattle.faults.specs.declared.Fault.{Fault}
 
 -- it answers, or refuses
 pub data Outcome (X : Type 0) : Type 0 where

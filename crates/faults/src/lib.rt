@@ -1,6 +1,6 @@
 //! What a refused call says: which fault, who found it, and where.
 ghost use mathlib.Core.Path.{_≡_};
-ghost use Rattle.fault.specs.Faults.{found, passed};
+ghost use Rattle.faults.specs.Faults.{found, passed};
 
 /// A layer of the library: it finds faults, or passes up those of a layer below.
 #[derive(Clone, Copy, PartialEq, Eq, Debug)]

@@ -2,9 +2,9 @@
 use Prim.Native.Nat.{ℕ}
 use Rattle.std.specs.declared.option.Option.{Option}
 use Rattle.std.specs.declared.option.Option.the-variants.{Some, None}
-use Rattle.fault.specs.declared.Fault.{Fault}
-use Rattle.fault.specs.declared.Layer.{Layer}
-use Rattle.fault.specs.declared.Names.{Names}
+use Rattle.faults.specs.declared.Fault.{Fault}
+use Rattle.faults.specs.declared.Layer.{Layer}
+use Rattle.faults.specs.declared.Names.{Names}
 
 abbrev pub nobody : Names
 nobody = record { first = None; second = None; third = None }

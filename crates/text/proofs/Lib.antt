@@ -1,0 +1,9 @@
+mod FirstLine
+mod Putting
+mod Runs
+pub mod Reading
+mod Axes
+mod Tracing
+mod Steps
+mod Turns
+mod Outcomes
