@@ -14,3 +14,8 @@ refuses bad f rest h = rw h
 pub refused-by : {X : Type 0} (bad : Bool) (e f : Fault) (x : X) → refused e ≡ refuse-if bad f (answered x) → (bad ≡ true) × (e ≡ f)
 refused-by true e f x h = (refl, cc)
 refused-by false e f x h = absurd (let z : _≡_ {A = ℕ} 0 1 = cc in omega arith)
+
+-- what a check lets pass, and what it answers
+pub answered-by : {X : Type 0} (bad : Bool) (f : Fault) (x y : X) → answered x ≡ refuse-if bad f (answered y) → (bad ≡ false) × (x ≡ y)
+answered-by true f x y h = absurd (let z : _≡_ {A = ℕ} 0 1 = cc in omega arith)
+answered-by false f x y h = (refl, cc)

@@ -23,6 +23,11 @@ LowEnd {A} ranks f t = (a : List A) × (p : List A) × (t ≡ a ++ p) × (0 < le
 no-word : {A : Type 0} (s t : List A) → _≡_ {A = List A} [] (s ++ t) → 0 < length s + length t → ⊥
 no-word s t e h = omega (arith, ap length e ∙ length-append s t)
 
+-- no more words than letters
+pub few-words : {A : Type 0} (ranks : A → A → Ordering) (fs : List (List A)) → Each (Lyndon ranks) fs → length fs ≤ length (joined fs)
+few-words ranks [] F = omega arith
+few-words ranks (f ∷ fs) F = omega (arith, F .0 .some, few-words ranks fs (F .1), length-append f (joined fs))
+
 module _ {A : Type 0} {ranks : A → A → Ordering} (o : TotalOrder ranks) where
   falling-tail : (f : List A) (fs : List (List A)) → Falling ranks (f ∷ fs) → Falling ranks fs
   falling-tail f [] h = tt
@@ -107,13 +112,9 @@ module _ {A : Type 0} {ranks : A → A → Ordering} (o : TotalOrder ranks) wher
   pub only : (w : List A) (fs : List (List A)) → Factors ranks w fs → fs ≡ factors ranks w
   only w fs F = unique w fs (factors ranks w) F (factored w)
 
-  few : (fs : List (List A)) → Each (Lyndon ranks) fs → length fs ≤ length (joined fs)
-  few [] F = omega arith
-  few (f ∷ fs) F = omega (arith, F .0 .some, few fs (F .1), length-append f (joined fs))
-
   -- no more factors than letters
   pub few-factors : (w : List A) → length (factors ranks w) ≤ length w
-  few-factors w = let F = factored w in rw (F .whole) at (few (factors ranks w) (F .lyndon))
+  few-factors w = let F = factored w in rw (F .whole) at (few-words ranks (factors ranks w) (F .lyndon))
 
   -- ---- the first factor is the longest Lyndon prefix
 

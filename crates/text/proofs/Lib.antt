@@ -1,4 +1,4 @@
-mod FirstLine
+pub mod FirstLine
 mod Putting
 mod Runs
 pub mod Reading
@@ -6,4 +6,5 @@ mod Axes
 mod Tracing
 mod Steps
 mod Turns
-mod Outcomes
+pub mod Outcomes
+pub mod Written

@@ -58,7 +58,7 @@ trace-one (m ∷ u) (n ∷ v) e f g =
     let first = r .0 in
     cc
 
-one-meaning : (bs : List ℕ) (u v : List Move) → IsTrace bs u → IsTrace bs v → u ≡ v
+pub one-meaning : (bs : List ℕ) (u v : List Move) → IsTrace bs u → IsTrace bs v → u ≡ v
 one-meaning bs u v f g = trace-one u v (sym (f .0) ∙ g .0) (f .1) (g .1)
 
 one-of : (text : List ℕ) (size : ℕ) (o p : Outcome (List Move)) → TraceOutcome text size o → TraceOutcome text size p → o ≡ p
