@@ -5,7 +5,7 @@ ghost use lib.ListN.{length, take};
 ghost use Rattle.std.specs.shelf.Maps.{nth};
 
 /// The first `count` elements, or all of them where there are fewer.
-pub fn front<T>(elements: &[T], count: usize) -> &[T]
+pub(crate) fn front<T>(elements: &[T], count: usize) -> &[T]
     ensures value { λ r. ⌜ now r ≡ take count (now (elements .entry)) ⌝ }
     ensures within { λ r. ⌜ length (now r) ≤ length (now (elements .entry)) ⌝ }
 {
@@ -17,7 +17,7 @@ pub fn front<T>(elements: &[T], count: usize) -> &[T]
 }
 
 /// The element at a place, if there is one.
-pub fn element<T: Copy>(elements: &[T], place: usize) -> Option<T>
+pub(crate) fn element<T: Copy>(elements: &[T], place: usize) -> Option<T>
     ensures { λ r. ⌜ r ≡ nth (now (elements .entry)) place ⌝ }
 {
     elements.get(place).copied()

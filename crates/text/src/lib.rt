@@ -3,7 +3,6 @@
 mod fault;
 mod input;
 mod line;
-mod trace;
 
 pub use fault::TextFault;
 pub use fault::TextFaultDebug;
@@ -12,4 +11,3 @@ pub use fault::TextFromWord;
 pub use input::first_line;
 pub use line::write_factor_line;
 pub use line::write_fault_line;
-pub use trace::read_trace;

@@ -25,11 +25,11 @@ use Rattle.lyndon.specs.Theorems.{Factorizations}
 use Rattle.lyndon.proofs.Factorization.{few-words}
 use Rattle.text.specs.Input.{first-line, FrontDecides}
 use Rattle.text.specs.Lines.{fault-line}
-use Rattle.text.specs.Traces.{IsTrace, TraceOutcome, AxesFit, further, move-text, trace}
-use Rattle.text.specs.Traces.TraceOutcome.{long, malformed as stopped, short, read}
 use Rattle.text.proofs.FirstLine.{front-decides}
-use Rattle.text.proofs.Outcomes.{one-meaning}
 use Rattle.text.proofs.Reading.{means-or-stops}
+use Rattle.trace_text.specs.Traces.{IsTrace, TraceOutcome, AxesFit, further, move-text, trace}
+use Rattle.trace_text.specs.Traces.TraceOutcome.{long, malformed as stopped, short, read}
+use Rattle.trace_text.proofs.Outcomes.{one-meaning}
 use Rattle.word.specs.Calls.{factor-outcome, starts-of}
 use Rattle.trace.specs.Printed.{Determined, LinePrints, OutcomePrints, Prints, factor-lines, start-lines}
 use Rattle.trace.specs.Printed.LinePrints.{factored, malformed}

@@ -12,7 +12,7 @@ use Rattle.lyndon.specs.Factoring.{factors}
 use Rattle.text.specs.Input.{first-line}
 use Rattle.text.specs.Lines.{factor-line, fault-line}
 use Rattle.text.specs.Reading.{Stops}
-use Rattle.text.specs.Traces.{IsTrace}
+use Rattle.trace_text.specs.Traces.{IsTrace}
 
 -- a line for each of the words that stand one behind the other from a place on: its start and its length
 abbrev pub factor-lines : {A : Type 0} → ℕ → List (List A) → List ℕ

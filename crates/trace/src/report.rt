@@ -21,8 +21,8 @@ use letter_order::Sense;
 use std::alloc::AllocError;
 use std::alloc::Global;
 use text::first_line;
-use text::read_trace;
 use text::write_factor_line;
+use trace_text::read_trace;
 use word::factor;
 
 /// A line of 4,096 bytes has no more moves: each takes two bytes, and a space but for the first.

@@ -8,7 +8,7 @@ use std::cmp::Ordering;
 
 /// Equal factors in a row.
 #[derive(Clone, Copy)]
-pub struct Run {
+pub(crate) struct Run {
     /// How many letters each of them has.
     pub period: usize,
     /// How many there are.
@@ -16,7 +16,7 @@ pub struct Run {
 }
 
 /// The equal factors with which a word begins.
-pub fn leading_run<L, O: Order<L>>(order: &O, word: &[L]) -> Run
+pub(crate) fn leading_run<L, O: Order<L>>(order: &O, word: &[L]) -> Run
     requires { ⌜ 0 < length (now word) ⌝ }
     ensures { λ r. ⌜ LeadingRun (ranks (now (order .entry))) (now (word .entry)) (r .period) (r .count) ⌝ }
 {

@@ -1,0 +1,3 @@
+pub mod Tokens
+pub mod Traces
+pub mod States
