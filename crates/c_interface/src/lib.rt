@@ -11,6 +11,7 @@ use word::factor;
 
 /// The starts of the factors of a word of letter numbers. Answers how many there are, with 0 as the fault, or 0 and
 /// the number of the fault.
+/// A caller in another language sees to it that each pointer is valid for its length, and that none overlaps another.
 #[unsafe(no_mangle)]
 pub extern "C" fn lyndon_factor(word: &[u8], starts: &mut [u16], fault: &mut u8) -> usize
     ensures count { λ r. ⌜ r ≡ number-answered (factor-outcome by-value (now (word .entry)) (length (now (starts .entry)))) ⌝ }

@@ -11,9 +11,20 @@ use std::io;
 use std::io::Read;
 use text::write_fault_line;
 
+/// So many bytes of an input decide what its first line is: those of the longest line that is taken, and one more.
+pub const FRONT: usize = 4_097;
+
 /// Fills a buffer with the front of standard input, and answers how many bytes were read: fewer than it has room for
 /// only where the input ends.
-pub fn read_front(rt: &LibcRuntime, buffer: &mut [u8]) -> io::Result<usize>
+pub fn read_front(rt: &LibcRuntime, buffer: &mut [u8; FRONT]) -> io::Result<usize>
+    ensures room { λ _. ⌜ length (now (buffer .exit)) ≡ 4097 ⌝ }
+    ensures within { λ r. ⌜ made r (λ count. count ≤ 4097) ⌝ }
+{
+    fill(rt, buffer)
+}
+
+/// Reads standard input into a buffer until that is full or the input ends.
+fn fill(rt: &LibcRuntime, buffer: &mut [u8]) -> io::Result<usize>
     ensures { λ r. ⌜ made r (λ count. count ≤ length (now (buffer .exit))) ⌝ }
 {
     let mut stdin = rt.stdin();

@@ -37,7 +37,7 @@ module _ {X : Type 0} (old : List X) where
       ∙ ap (λ l. b ++ l) (drop-drop (length b - length a) (length a) old)
       ∙ ap (λ k. b ++ drop k old) n
 
-  over-more : (w : List X) (x : X) → length w < length old → set (over w old) (length w) x ≡ over (w ++ x ∷ []) old
+  pub over-more : (w : List X) (x : X) → length w < length old → set (over w old) (length w) x ≡ over (w ++ x ∷ []) old
   over-more w x h =
       let rest : drop (length w) old ≡ getD old (length w) x ∷ drop (length w + 1) old = drop-more old (length w) x h in
       ap (λ l. set (w ++ l) (length w) x) rest

@@ -1,3 +1,2 @@
 mod Reading
-mod Copying
 pub mod Filling

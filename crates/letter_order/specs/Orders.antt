@@ -3,7 +3,7 @@ use mathlib.Core.Path.{_≡_}
 use mathlib.Core.Logic.{_↔_}
 use Prim.Native.Nat.{ℕ}
 use Rattle.std.specs.declared.cmp.Ordering.{Ordering}
-use Rattle.std.specs.declared.cmp.Ordering.the-variants.{Less, Equal, Greater}
+use Rattle.std.specs.declared.cmp.Ordering.the-variants.{Less, Equal}
 use Rattle.std.specs.Keys.{unsigned}
 use Rattle.std.specs.Orderings.{reversed}
 

@@ -1,5 +1,4 @@
 //! Moves of a machine along its axes, as letters.
-ghost use mathlib.Core.Path.{_≡_};
 ghost use Rattle.letter_order.specs.Moves.{by-axis};
 use crate::order::Order;
 use std::cmp::Ordering;

@@ -2,8 +2,8 @@
 use mathlib.Core.Path.{_≡_, refl, sym, ap, subst, _∙_}
 use mathlib.Core.Bool.{cond}
 use mathlib.Core.List.{List, [], _∷_, _++_, append-assoc, append-nil}
-use mathlib.Core.Logic.{_⊎_, inl, inr}
-use Prim.Native.Nat.{ℕ, _+_, _≤_, _<_}
+use mathlib.Core.Logic.{inl, inr}
+use Prim.Native.Nat.{_+_, _≤_, _<_}
 use native.Mathlib.Omega.{arith}
 use lib.ListN.{length, length-append}
 use Rattle.std.specs.declared.cmp.Ordering.{Ordering}
@@ -13,7 +13,7 @@ use Rattle.letter_order.specs.Orders.{TotalOrder}
 use Rattle.lyndon.specs.Words.{dictionary, Before, Lyndon, Each, Falling, Factors, joined}
 use Rattle.lyndon.specs.Factoring.{factors, merged}
 use Rattle.lyndon.proofs.Orders.{equal-less, greater-less}
-use Rattle.lyndon.proofs.Dictionary.{irrefl, trans, le-lt, lt-le, prefix, prefix-low}
+use Rattle.lyndon.proofs.Dictionary.{trans, lt-le, prefix, prefix-low}
 use Rattle.lyndon.proofs.LyndonWords.{Cut, cuts, suffix, single, join}
 
 -- t ends in a word p that is not after f

@@ -1,7 +1,7 @@
 -- The loop that reads the equal factors with which a word begins.
 use mathlib.Core.Path.{_≡_, refl, sym, ap, subst, _∙_}
 use mathlib.Core.List.{List, [], _∷_, _++_, append-assoc, append-nil}
-use mathlib.Core.Logic.{_⊎_, inl, inr}
+use mathlib.Core.Logic.{inl, inr}
 use Prim.Native.Nat.{ℕ, zero, suc, _+_, _-_, _*_, _/_, _≤_, _<_}
 use native.Mathlib.Nat.{zero-mul, suc-mul, div-mul-le-self, le-div-iff-mul-le, one-mul}
 use native.Mathlib.Omega.{arith}
@@ -14,7 +14,7 @@ use Rattle.letter_order.specs.Orders.{TotalOrder}
 use Rattle.lyndon.specs.Words.{Lyndon}
 use Rattle.lyndon.specs.Factoring.{factors}
 use Rattle.lyndon.specs.Runs.{LeadingRun}
-use Rattle.lyndon.proofs.LyndonWords.{Cut, cuts, single}
+use Rattle.lyndon.proofs.LyndonWords.{cuts, single}
 use Rattle.lyndon.proofs.Factorization.{longest-first}
 use Rattle.lyndon.proofs.Duval.{Reads, Stops, fresh, next, step-greater, step-same, stop}
 

@@ -1,25 +1,24 @@
 -- Where a word is split: before its longest proper suffix that is Lyndon, which is its least one.
 use mathlib.Core.Path.{_≡_, refl, sym, ap, subst, _∙_}
-use mathlib.Core.Bool.{Bool, true, false, cond, _&&_}
+use mathlib.Core.Bool.{Bool, true, false, cond}
 use mathlib.Core.List.{List, [], _∷_, _++_, append-assoc, append-nil}
-use mathlib.Core.Logic.{_⊎_, inl, inr}
+use mathlib.Core.Logic.{inl, inr}
 use Prim.Native.Nat.{ℕ, zero, suc, _+_, _-_, _≤_, _<_}
 use native.Mathlib.Omega.{arith}
 use borrow.Author.Tests.{clash}
 use lib.ListN.{length, take, drop, length-append, length-drop, take-append-drop}
-use lib.Seq.{drop-append-seam, take-append-seam, drop-append-le, length-take-le}
+use lib.Seq.{drop-append-seam, drop-append-le}
 use Rattle.std.specs.declared.cmp.Ordering.{Ordering}
-use Rattle.std.specs.declared.cmp.Ordering.the-variants.{Less, Equal, Greater}
-use Rattle.std.specs.Orderings.{isLt, Decides}
+use Rattle.std.specs.Orderings.{isLt}
 use Rattle.std.proofs.shelf.Tests.{and-from, and-parts, cases-bool, cases-lt}
 use Rattle.letter_order.specs.Orders.{TotalOrder}
-use Rattle.lyndon.specs.Words.{dictionary, Before, Lyndon, Each, Factors, Split, joined}
-use Rattle.lyndon.specs.Factoring.{factors, leads, is-lyndon, ahead, split-place}
-use Rattle.lyndon.specs.Theorems.{LongestPrefix, LeastSuffix, OneFactorization, Factorizations, OneSplit, Splits, Tested}
+use Rattle.lyndon.specs.Words.{dictionary, Before, Lyndon, Each, Factors, joined}
+use Rattle.lyndon.specs.Factoring.{factors, leads, is-lyndon, ahead}
+use Rattle.lyndon.specs.Theorems.{Tested}
 use Rattle.lyndon.proofs.Orders.{is-before}
-use Rattle.lyndon.proofs.Dictionary.{Apart, asym, compared, unfront, apart-before, apart-append, before-cases}
+use Rattle.lyndon.proofs.Dictionary.{compared}
 use Rattle.lyndon.proofs.LyndonWords.{suffix, from-cuts, single}
-use Rattle.lyndon.proofs.Factorization.{factored, only, first-longest, last-least}
+use Rattle.lyndon.proofs.Factorization.{factored, last-least}
 
 -- s is the least of the non-empty suffixes of w
 abbrev pub Least : {A : Type 0} → (A → A → Ordering) → List A → List A → Type 0

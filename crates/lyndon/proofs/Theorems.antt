@@ -1,7 +1,7 @@
 -- The theorems on factorizations and splits.
 use mathlib.Core.Path.{_≡_, refl, sym, ap, subst, _∙_}
 use mathlib.Core.List.{List, [], _∷_, _++_, append-assoc}
-use mathlib.Core.Logic.{_⊎_, inl, inr}
+use mathlib.Core.Logic.{inl, inr}
 use Prim.Native.Nat.{ℕ, zero, suc, _+_, _-_, _≤_, _<_}
 use native.Mathlib.Omega.{arith}
 use lib.ListN.{length, take, drop, length-append, length-drop, length-take, take-append-drop}
@@ -10,7 +10,7 @@ use Rattle.std.specs.declared.cmp.Ordering.{Ordering}
 use Rattle.letter_order.specs.Orders.{TotalOrder}
 use Rattle.lyndon.specs.Words.{Before, Lyndon, Factors, Split, joined}
 use Rattle.lyndon.specs.Factoring.{factors, ahead, split-place}
-use Rattle.lyndon.specs.Theorems.{LongestPrefix, LeastSuffix, OneFactorization, Factorizations, OneSplit, Splits}
+use Rattle.lyndon.specs.Theorems.{LongestPrefix, LeastSuffix, Factorizations, Splits}
 use Rattle.lyndon.proofs.Dictionary.{asym, compared, unfront, apart-before, apart-append, before-cases}
 use Rattle.lyndon.proofs.LyndonWords.{suffix, from-cuts}
 use Rattle.lyndon.proofs.Factorization.{factored, only, first-longest}

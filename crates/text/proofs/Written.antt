@@ -1,8 +1,8 @@
 -- What a caller knows of a line that was written into its buffer.
-use mathlib.Core.Path.{_≡_, refl, sym, ap, _∙_}
-use mathlib.Core.Bool.{Bool, true, false, cond}
-use mathlib.Core.List.{List, _++_}
-use Prim.Native.Nat.{ℕ, _≤_, _<_}
+use mathlib.Core.Path.{_≡_, sym, ap, _∙_}
+use mathlib.Core.Bool.{cond}
+use mathlib.Core.List.{List}
+use Prim.Native.Nat.{ℕ, _≤_}
 use native.Mathlib.Omega.{arith}
 use borrow.Author.Tests.{ltb-false, ltb-true}
 use lib.Dec.{ltb}
@@ -11,7 +11,6 @@ use Rattle.std.proofs.shelf.Lists.{take-at}
 use Rattle.faults.specs.declared.Fault.{Fault}
 use Rattle.faults.specs.declared.Layer.the-variants.{Text}
 use Rattle.faults.specs.Faults.{found}
-use Rattle.faults.specs.Outcome.{Outcome, refuse-if}
 use Rattle.faults.specs.Outcome.Outcome.{answered, refused}
 use Rattle.faults.proofs.Checks.{answered-by, refused-by}
 use Rattle.lent_list.specs.Lent.{over}

@@ -7,6 +7,9 @@ ghost use Rattle.text.specs.Faults.{text-fault};
 ghost use Rattle.text.specs.Input.{line, first-line, FrontDecides};
 use crate::fault::TextFault;
 
+/// The most bytes that a line of an input may have.
+const LONGEST: usize = 4_096;
+
 /// How many bytes stand before the first line feed.
 fn line_end(input: &[u8]) -> usize
     ensures line { λ r. ⌜ take r (now (input .entry)) ≡ line (now (input .entry)) ⌝ }
@@ -29,7 +32,7 @@ pub fn first_line(input: &[u8]) -> Result<&[u8], TextFault>
     ensures front { λ _. ⌜ FrontDecides ⌝ }
 {
     let end = line_end(input);
-    if end > 4096 {
+    if end > LONGEST {
         return Err(TextFault::LongText);
     }
     Ok(&input[..end])

@@ -1,13 +1,11 @@
 -- What the parts of a report come to.
 use mathlib.Core.Path.{_≡_, refl, sym, ap, subst, _∙_}
-use mathlib.Core.Bool.{Bool, true, false}
-use mathlib.Core.List.{List, [], _∷_, _++_}
-use Prim.Native.Nat.{ℕ, _+_, _*_, _^_, _≤_, _<_}
+use mathlib.Core.List.{List, [], _∷_}
+use Prim.Native.Nat.{ℕ, _+_, _*_, _≤_}
 use native.Mathlib.Omega.{arith}
 use borrow.Author.Tests.{le-ltb, ltb-true}
 use lib.Dec.{ltb}
-use lib.ListN.{length, take, length-append}
-use Rattle.std.specs.Written.{decimal}
+use lib.ListN.{length, length-append}
 use Rattle.std.specs.declared.cmp.Ordering.{Ordering}
 use Rattle.std.proofs.shelf.Decimals.{decimal-some}
 use Rattle.faults.specs.declared.Fault.{Fault}
@@ -19,7 +17,6 @@ use Rattle.faults.proofs.Checks.{refused-by}
 use Rattle.letter_order.specs.Moves.{by-axis}
 use Rattle.letter_order.specs.Orders.{reversed-order}
 use Rattle.letter_order.specs.declared.moves.Move.{Move}
-use Rattle.lyndon.specs.Words.{joined}
 use Rattle.lyndon.specs.Factoring.{factors}
 use Rattle.lyndon.specs.Theorems.{Factorizations}
 use Rattle.lyndon.proofs.Factorization.{few-words}
@@ -27,11 +24,11 @@ use Rattle.text.specs.Input.{first-line, FrontDecides}
 use Rattle.text.specs.Lines.{fault-line}
 use Rattle.text.proofs.FirstLine.{front-decides}
 use Rattle.text.proofs.Reading.{means-or-stops}
-use Rattle.trace_text.specs.Traces.{IsTrace, TraceOutcome, AxesFit, further, move-text, trace}
+use Rattle.trace_text.specs.Traces.{IsTrace, TraceOutcome, AxesFit, further, move-text}
 use Rattle.trace_text.specs.Traces.TraceOutcome.{long, malformed as stopped, short, read}
 use Rattle.trace_text.proofs.Outcomes.{one-meaning}
 use Rattle.word.specs.Calls.{factor-outcome, starts-of}
-use Rattle.trace.specs.Printed.{Determined, LinePrints, OutcomePrints, Prints, factor-lines, start-lines}
+use Rattle.trace.specs.Printed.{Determined, LinePrints, OutcomePrints, factor-lines, start-lines}
 use Rattle.trace.specs.Printed.LinePrints.{factored, malformed}
 use Rattle.trace.proofs.Lines.{lines-of-words}
 

@@ -39,7 +39,7 @@ pub record Determined : Type 0 where
 
 -- ---- by starts
 
--- where the word behind ends that starts are left of, in a text of n letters
+-- the first of some starts, or n where there are none
 abbrev pub next-start : List ℕ → ℕ → ℕ
 next-start [] n = n
 next-start (s ∷ ss) n = s

@@ -2,13 +2,11 @@
 
 mod report;
 
+use console::FRONT;
 use console::read_front;
 use report::report;
 use std::io;
 use std::io::Write;
-
-/// So many bytes of an input decide what is printed: those of the longest line that is taken, and one more.
-const FRONT: usize = 4_097;
 
 fn main(rt: LibcRuntime) -> io::Result<()> {
     let mut input = [0; FRONT];

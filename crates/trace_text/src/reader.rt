@@ -28,6 +28,9 @@ use text::TextFault;
 use text::TextFromWord;
 use word::check_room;
 
+/// The most bytes that a trace may have.
+const LONGEST: usize = 4_096;
+
 /// What a reader of traces awaits.
 #[derive(Clone, Copy)]
 enum State {
@@ -179,7 +182,7 @@ pub fn read_trace(text: &[u8], moves: &mut LentList<Move>) -> Result<usize, Text
     ensures lender { λ _. ⌜ name (now (moves .exit) .memory) ≡ name (now (moves .entry) .memory) ⌝ }
     ensures one { λ _. ⌜ OneOutcome ⌝ }
 {
-    if text.len() > 4096 {
+    if text.len() > LONGEST {
         return Err(TextFault::LongText);
     }
     let count = count_moves(text)?;

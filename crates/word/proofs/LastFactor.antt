@@ -1,26 +1,25 @@
 -- What the leading run tells of the last factor, and of Lyndon words.
 use mathlib.Core.Path.{_≡_, refl, sym, ap, subst, _∙_}
-use mathlib.Core.Bool.{Bool, true, false}
+use mathlib.Core.Bool.{false}
 use mathlib.Core.List.{List, [], _∷_, _++_, append-assoc, append-nil}
-use mathlib.Core.Logic.{_⊎_, inl, inr}
+use mathlib.Core.Logic.{inl, inr}
 use Prim.Native.Nat.{ℕ, zero, suc, _+_, _-_, _*_, _≤_, _<_}
 use native.Mathlib.Nat.{mul-le-mul-right, suc-mul, zero-mul}
 use native.Mathlib.Numerals.{add-one}
 use native.Mathlib.Omega.{arith}
-use borrow.Author.Tests.{eqb-true, eqb-false, eq-eqb}
+use borrow.Author.Tests.{eqb-true, eqb-false}
 use lib.Dec.{eqb}
 use lib.ListN.{length, take, drop, replicate, length-append, length-drop}
 use Rattle.std.specs.declared.cmp.Ordering.{Ordering}
 use Rattle.std.proofs.shelf.Lists.{drop-drop, length-take-le, nil-from-length, replicate-more, take-all, take-rest}
 use Rattle.std.proofs.shelf.Tests.{cases-bool}
 use Rattle.letter_order.specs.Orders.{TotalOrder}
-use Rattle.lyndon.specs.Words.{Lyndon, Factors, joined}
+use Rattle.lyndon.specs.Words.{Lyndon, joined}
 use Rattle.lyndon.specs.Factoring.{factors, is-lyndon, ahead}
 use Rattle.lyndon.specs.Runs.{LeadingRun}
 use Rattle.lyndon.proofs.Factorization.{factored}
 use Rattle.lyndon.proofs.Splitting.{ahead-last, ended, tested}
 use Rattle.lyndon.proofs.Theorems.{factorizations}
-use Rattle.word.proofs.Outcomes.{period-within}
 use Rattle.word.proofs.Runs.{none-left}
 
 joined-append : {A : Type 0} (fs gs : List (List A)) → joined (fs ++ gs) ≡ joined fs ++ joined gs

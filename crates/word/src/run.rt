@@ -1,5 +1,4 @@
 //! Duval's algorithm: the equal factors with which a word begins, in one pass over them.
-ghost use mathlib.Core.Path.{_≡_};
 ghost use Prim.Native.Nat.{_<_};
 ghost use lib.ListN.{length};
 ghost use Rattle.lyndon.specs.Runs.{LeadingRun};

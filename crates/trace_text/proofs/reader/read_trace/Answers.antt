@@ -7,16 +7,16 @@ use Rattle.trace_text.specs.Traces.TraceOutcome.{long}
 use Rattle.trace_text.proofs.Outcomes.{one-outcome, malformed-read, short-read}
 use Rattle.trace_text.proofs.reader.read_trace.Needs as need
 
-pub returns-then-text-gt4096 : need.returns-then-text-gt4096
-returns-then-text-gt4096 c =
-    record { outcome = long (c .if-text-gt4096 .taken); count = tt; memory = refl; lender = refl; one = one-outcome }
+pub returns-then-text-gt-LONGEST : need.returns-then-text-gt-LONGEST
+returns-then-text-gt-LONGEST c =
+    record { outcome = long (c .if-text-gt-LONGEST .taken); count = tt; memory = refl; lender = refl; one = one-outcome }
 
 pub returns-in-Break-count : need.returns-in-Break-count
 returns-in-Break-count c =
     let p = err-from-errBy (c .from-residual .result) (c .from-residual .ensures .1) in
     rw (p .1, p .2)
     (record {
-      outcome = malformed-read (c .args .text .now) (length (places (c .args .moves .now))) (c .in-Break-count .field-0 .0) (c .if-text-gt4096 .left) (c .in-Break-count .ensures tt .counted);
+      outcome = malformed-read (c .args .text .now) (length (places (c .args .moves .now))) (c .in-Break-count .field-0 .0) (c .if-text-gt-LONGEST .left) (c .in-Break-count .ensures tt .counted);
       count = tt;
       memory = refl;
       lender = refl;
@@ -26,5 +26,5 @@ returns-in-Break-count c =
 pub returns-in-Break-check-room : need.returns-in-Break-check-room
 returns-in-Break-check-room c =
     let p = err-from-errBy (c .from-residual-in-Break-check-room .result) (c .from-residual-in-Break-check-room .ensures .1) in
-    let short = short-read (c .args .text .now) (c .size .result) (c .in-Continue-count .count) (word-fault (c .in-Break-check-room .field-0 .0)) (c .if-text-gt4096 .left) (c .in-Continue-count .ensures tt .counted) (c .in-Break-check-room .ensures tt) in
+    let short = short-read (c .args .text .now) (c .size .result) (c .in-Continue-count .count) (word-fault (c .in-Break-check-room .field-0 .0)) (c .if-text-gt-LONGEST .left) (c .in-Continue-count .ensures tt .counted) (c .in-Break-check-room .ensures tt) in
     rw (p .1, p .2) (record { outcome = rw (c .size .ensures) at short; count = tt; memory = refl; lender = refl; one = one-outcome })

@@ -1,4 +1,4 @@
-use mathlib.Core.Path.{_≡_, ap, _∙_}
+use mathlib.Core.Path.{ap, _∙_}
 use borrow.Author.Tests.{true-eqb}
 use lib.ListN.{take}
 use Rattle.std.specs.declared.option.Option.the-variants.{Some}

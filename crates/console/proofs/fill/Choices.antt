@@ -1,6 +1,6 @@
 use Prim.Native.Nat.{_-_, _≤_}
 use lib.ListN.{length}
-use Rattle.console.proofs.read_front.Given as given
+use Rattle.console.proofs.fill.Given as given
 
 abbrev pub Inv-loop-count : given.InvT-loop-count
 Inv-loop-count l = l .count ≤ length (l .buffer)
