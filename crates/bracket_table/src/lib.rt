@@ -1,4 +1,7 @@
 //! The table of a shape: every Lyndon word with the two entries of its split, in listing order, by number.
+
+#![tactic(auto)]
+
 ghost use Rattle.std.specs.Prelude.{◌≡◌, length, take, drop};
 ghost use Rattle.lent_list.specs.Lent.{items};
 ghost use Rattle.bracket_table.specs.Held.{entries_in, keys_in, rest_in};

@@ -1,4 +1,7 @@
 //! Calls of the library for programs in C or Rust: a slice is a pointer and then a length.
+
+#![tactic(auto)]
+
 ghost use Rattle.std.specs.Prelude.{◌≡◌, length};
 ghost use Rattle.letter_order.specs.Orders.{by_value};
 ghost use Rattle.word.specs.Calls.{factor_outcome, starts_of};

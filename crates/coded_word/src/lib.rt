@@ -1,5 +1,7 @@
 //! Words of a shape by their lengths and codes, and its Lyndon words one after the other.
 
+#![tactic(auto)]
+
 mod coded;
 mod digits;
 mod shape;

@@ -1,4 +1,7 @@
 //! What the programs share: the front of their input, and the line of a fault.
+
+#![tactic(auto)]
+
 ghost use Rattle.std.specs.Prelude.{◌≡◌, ◌≤◌, length, take, IfOk};
 ghost use Rattle.text.specs.Lines.{fault_line};
 

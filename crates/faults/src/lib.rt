@@ -1,4 +1,7 @@
 //! What a refused call says: which fault, who found it, and where.
+
+#![tactic(auto)]
+
 ghost use Rattle.std.specs.Prelude.{◌≡◌};
 ghost use Rattle.faults.specs.Faults.{found, passed};
 

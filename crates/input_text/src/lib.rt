@@ -1,5 +1,7 @@
 //! The lines that the program `table` reads.
 
+#![tactic(auto)]
+
 mod part;
 mod shape;
 

@@ -1,4 +1,7 @@
 //! One list over memory that the caller lends, for every kind of element.
+
+#![tactic(auto)]
+
 ghost use Rattle.std.specs.Prelude.{◌≡◌, ◌<◌, ◌≤◌, [], ◌∷◌, ◌++◌, length, MatchBool, MatchResult, slice_set};
 ghost use Rattle.std.specs.List.{slice_get};
 ghost use Rattle.lent_list.specs.Lent.{places, items, over};

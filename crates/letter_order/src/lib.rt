@@ -1,5 +1,7 @@
 //! Orders of letters: what a word can be read under.
 
+#![tactic(auto)]
+
 mod moves;
 mod order;
 

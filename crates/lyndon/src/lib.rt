@@ -1,4 +1,7 @@
 //! Dictionary order, Lyndon words, factors and splits, over every order of letters; the listing of Lyndon words.
+
+#![tactic(auto)]
+
 ghost use Rattle.std.specs.Prelude.{◌≡◌, length};
 ghost use Rattle.std.specs.Ordering.{ordering_then};
 ghost use Rattle.letter_order.specs.Orders.{TotalOrder, by_value};

@@ -1,5 +1,7 @@
 //! Prints the bracket table of a shape "k n": a header, and the line of every entry.
 
+#![tactic(auto)]
+
 mod lines;
 mod report;
 

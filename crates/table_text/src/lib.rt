@@ -1,4 +1,7 @@
 //! The entries of a table as text.
+
+#![tactic(auto)]
+
 ghost use Rattle.std.specs.Prelude.{◌≡◌};
 ghost use Rattle.faults.specs.Outcome.{told};
 ghost use Rattle.bracket_table.specs.Faults.{table_fault};

@@ -1,5 +1,7 @@
 //! Texts: what is read from bytes, and what is written as bytes.
 
+#![tactic(auto)]
+
 mod fault;
 mod input;
 mod line;

@@ -1,5 +1,7 @@
 //! Prints start and length of each factor of a trace, under the reversed order of moves.
 
+#![tactic(auto)]
+
 mod report;
 
 use console::{FRONT, read_front};

@@ -1,5 +1,7 @@
 //! Trace texts: the moves of a machine, with one space between them.
 
+#![tactic(auto)]
+
 mod reader;
 mod token;
 

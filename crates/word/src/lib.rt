@@ -1,5 +1,7 @@
 //! Words over any ordered letters: their factors, and the splits of Lyndon words.
 
+#![tactic(auto)]
+
 mod factoring;
 mod fault;
 mod letters;

@@ -1,4 +1,7 @@
 //! Examples worked on paper, each shown to follow from the definitions.
+
+#![tactic(auto)]
+
 ghost use Rattle.worked_cases.specs.Holds.{AllHold};
 
 mod eleven_grows;
