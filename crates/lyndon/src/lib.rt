@@ -15,16 +15,16 @@ use std::cmp::Ordering;
 
 /// Dictionary order of two words. It is an order of words as `order` is one of letters.
 pub fn compare_words<L, O: Order<L>>(order: &O, u: &[L], v: &[L]) -> Ordering
-    ensures answer { result ≡ dictionary (ranks order.now) u.now v.now }
-    ensures total { TotalOrder (dictionary (ranks order.now)) }
+    ensures answer { result ≡ dictionary (O.ranks order.now) u.now v.now }
+    ensures total { TotalOrder (dictionary (O.ranks order.now)) }
 {
     compare_letters(order, u, v).then(u.len().cmp(&v.len()))
 }
 
 /// What the letters of two words decide, up to the end of the shorter word.
 fn compare_letters<L, O: Order<L>>(order: &O, u: &[L], v: &[L]) -> Ordering
-    ensures answer { ordering_then result (by_value (length u.now) (length v.now)) ≡ dictionary (ranks order.now) u.now v.now }
-    ensures total { TotalOrder (dictionary (ranks order.now)) }
+    ensures answer { ordering_then result (by_value (length u.now) (length v.now)) ≡ dictionary (O.ranks order.now) u.now v.now }
+    ensures total { TotalOrder (dictionary (O.ranks order.now)) }
 {
     for i in 0..u.len().min(v.len()) {
         match order.compare(&u[i], &v[i]) {

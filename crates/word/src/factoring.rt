@@ -18,8 +18,8 @@ pub fn first<'a, L, O: Order<L>>(
     order: &O,
     word: &'a [L],
 ) -> Result<Option<(&'a [L], &'a [L])>, WordFault>
-    ensures answer { told shown word_fault result ≡ first_outcome (ranks order.now) word.now }
-    ensures factorizations { Factorizations (ranks order.now) }
+    ensures answer { told shown word_fault result ≡ first_outcome (O.ranks order.now) word.now }
+    ensures factorizations { Factorizations (O.ranks order.now) }
 {
     if word.len() > LONGEST {
         return Err(WordFault::LongWord);
@@ -33,13 +33,13 @@ pub fn factor<L, O: Order<L>>(
     word: &[L],
     starts: &mut LentList<u16>,
 ) -> Result<usize, WordFault>
-    ensures answer { told (λ n. n) word_fault result ≡ factor_outcome (ranks order.now) word.now (length (places starts.old)) }
+    ensures answer { told (λ n. n) word_fault result ≡ factor_outcome (O.ranks order.now) word.now (length (places starts.old)) }
     ensures starts { MatchResult result
-        (λ _. (items starts.new ≡ starts_of (ranks order.now) word.now)
-        × (places starts.new ≡ over (starts_of (ranks order.now) word.now) (places starts.old)))
+        (λ _. (items starts.new ≡ starts_of (O.ranks order.now) word.now)
+        × (places starts.new ≡ over (starts_of (O.ranks order.now) word.now) (places starts.old)))
         (λ _. starts.new ≡ starts.old) }
     ensures lender { starts.new.memory.ghost_name ≡ starts.old.memory.ghost_name }
-    ensures factorizations { Factorizations (ranks order.now) }
+    ensures factorizations { Factorizations (O.ranks order.now) }
 {
     if word.len() > LONGEST {
         return Err(WordFault::LongWord);
@@ -52,8 +52,8 @@ pub fn factor<L, O: Order<L>>(
 
 /// A word cut behind its first factor.
 fn cut_first<'a, L, O: Order<L>>(order: &O, word: &'a [L]) -> Option<(&'a [L], &'a [L])>
-    ensures parts { shown result ≡ cut_behind word.now (factors (ranks order.now) word.now) }
-    ensures factorizations { Factorizations (ranks order.now) }
+    ensures parts { shown result ≡ cut_behind word.now (factors (O.ranks order.now) word.now) }
+    ensures factorizations { Factorizations (O.ranks order.now) }
 {
     if word.is_empty() {
         return None;
@@ -64,8 +64,8 @@ fn cut_first<'a, L, O: Order<L>>(order: &O, word: &'a [L]) -> Option<(&'a [L], &
 
 /// Whether a list of this size holds the starts of the factors of a word.
 fn fits<L, O: Order<L>>(order: &O, word: &[L], size: usize) -> bool
-    ensures answer { result ≡ nat_le (length (factors (ranks order.now) word.now)) size }
-    ensures factorizations { Factorizations (ranks order.now) }
+    ensures answer { result ≡ nat_le (length (factors (O.ranks order.now) word.now)) size }
+    ensures factorizations { Factorizations (O.ranks order.now) }
 {
     // a word has no more factors than letters, so that only a short list asks for their number
     word.len() <= size || count_factors(order, word) <= size
@@ -73,7 +73,7 @@ fn fits<L, O: Order<L>>(order: &O, word: &[L], size: usize) -> bool
 
 /// How many factors a word has.
 fn count_factors<L, O: Order<L>>(order: &O, word: &[L]) -> usize
-    ensures { result ≡ length (factors (ranks order.now) word.now) }
+    ensures { result ≡ length (factors (O.ranks order.now) word.now) }
 {
     let mut count = 0;
     let mut from = 0;
@@ -102,10 +102,10 @@ fn push_starts(starts: &mut LentList<u16>, from: usize, run: Run)
 /// Replaces the contents of a list that is large enough by the starts of the factors of a word.
 fn list_starts<L, O: Order<L>>(order: &O, word: &[L], starts: &mut LentList<u16>) -> usize
     requires few { length word.now ≤ 65535 }
-    requires room { length (factors (ranks order.now) word.now) ≤ length (places starts.old) }
-    ensures count { result ≡ length (factors (ranks order.now) word.now) }
-    ensures items { items starts.new ≡ starts_of (ranks order.now) word.now }
-    ensures places { places starts.new ≡ over (starts_of (ranks order.now) word.now) (places starts.old) }
+    requires room { length (factors (O.ranks order.now) word.now) ≤ length (places starts.old) }
+    ensures count { result ≡ length (factors (O.ranks order.now) word.now) }
+    ensures items { items starts.new ≡ starts_of (O.ranks order.now) word.now }
+    ensures places { places starts.new ≡ over (starts_of (O.ranks order.now) word.now) (places starts.old) }
     ensures lender { starts.new.memory.ghost_name ≡ starts.old.memory.ghost_name }
 {
     starts.clear();

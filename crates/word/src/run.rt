@@ -17,7 +17,7 @@ pub(crate) struct Run {
 /// The equal factors with which a word begins.
 pub(crate) fn leading_run<L, O: Order<L>>(order: &O, word: &[L]) -> Run
     requires { 0 < length word.now }
-    ensures { LeadingRun (ranks order.now) word.now result.period result.count }
+    ensures { LeadingRun (O.ranks order.now) word.now result.period result.count }
 {
     let mut read = 1;
     let mut period = 1;

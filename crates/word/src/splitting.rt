@@ -16,9 +16,9 @@ pub fn split<'a, L, O: Order<L>>(
     order: &O,
     word: &'a [L],
 ) -> Result<Option<(&'a [L], &'a [L])>, WordFault>
-    ensures answer { told shown word_fault result ≡ split_outcome (ranks order.now) word.now }
-    ensures lyndon { Tested (ranks order.now) }
-    ensures splits { Splits (ranks order.now) }
+    ensures answer { told shown word_fault result ≡ split_outcome (O.ranks order.now) word.now }
+    ensures lyndon { Tested (O.ranks order.now) }
+    ensures splits { Splits (O.ranks order.now) }
 {
     if word.len() > LONGEST {
         return Err(WordFault::LongWord);
@@ -31,16 +31,16 @@ pub fn split<'a, L, O: Order<L>>(
 
 /// Whether a word is a Lyndon word: its first factor is all of it.
 fn is_lyndon<L, O: Order<L>>(order: &O, word: &[L]) -> bool
-    ensures answer { result ≡ is_lyndon (ranks order.now) word.now }
-    ensures lyndon { Tested (ranks order.now) }
-    ensures splits { Splits (ranks order.now) }
+    ensures answer { result ≡ is_lyndon (O.ranks order.now) word.now }
+    ensures lyndon { Tested (O.ranks order.now) }
+    ensures splits { Splits (O.ranks order.now) }
 {
     !word.is_empty() && leading_run(order, word).period == word.len()
 }
 
 /// A word of two or more letters, cut before its longest proper suffix that is Lyndon.
 fn cut_parts<'a, L, O: Order<L>>(order: &O, word: &'a [L]) -> Option<(&'a [L], &'a [L])>
-    ensures { shown result ≡ split_parts (ranks order.now) word.now }
+    ensures { shown result ≡ split_parts (O.ranks order.now) word.now }
 {
     if word.len() < 2 {
         return None;
@@ -52,7 +52,7 @@ fn cut_parts<'a, L, O: Order<L>>(order: &O, word: &'a [L]) -> Option<(&'a [L], &
 /// Where the last factor of a word begins: it is the longest suffix that is Lyndon.
 fn last_factor<L, O: Order<L>>(order: &O, word: &[L]) -> usize
     requires { 0 < length word.now }
-    ensures place { result ≡ ahead (ranks order.now) word.now }
+    ensures place { result ≡ ahead (O.ranks order.now) word.now }
     ensures within { result < length word.now }
 {
     let mut from = 0;

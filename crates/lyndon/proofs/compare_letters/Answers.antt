@@ -3,10 +3,10 @@ use Rattle.lyndon.proofs.Dictionary.{dictionary_total}
 use Rattle.lyndon.proofs.Comparing.{same_letter, other_letter, no_letter}
 use Rattle.lyndon.proofs.compare_letters.Goals as goal
 
-pub returns-in-default : goal.returns-in-default
-returns-in-default g c =
+pub returns-in_default : goal.returns-in_default
+returns-in_default g c =
     record {
-      answer = other_letter (g.O.Order.ranks c.args.order.now) c.args.u.now c.args.v.now c.loop-i.i c.loop-i.invariant c.index-u-i.result c.index-v-i.result (omega arith) (omega arith) c.index-u-i.is c.index-v-i.is c.compare.result _ c.compare.ensures c.in-default.not-Equal;
+      answer = other_letter (g.O.Order.ranks c.args.order.now) c.args.u.now c.args.v.now c.loop-i.i c.loop-i.invariant c.index-u-i.result c.index-v-i.result (omega arith) (omega arith) c.index-u-i.is c.index-v-i.is c.compare.result _ c.compare.ensures c.in_default.not-Equal;
       total = dictionary_total (g.met.O.Order.total c.args.order.now);
     }
 

@@ -11,9 +11,9 @@ use Rattle.bracket_table.specs.Seen.{view, Adds}
 use Rattle.bracket_table.proofs.Growing.{kept, complete, full, few, number_few, in_order, accepted, grown_holds, grown_view, grown_adds, last}
 use Rattle.bracket_table.proofs.Table.grow.Goals as goal
 
-pub returns-in-default : goal.returns-in-default
-returns-in-default c =
-    let a = complete c.args.self.now.next c.in-ok-cursor.cursor c.in-ok-cursor.ensures.cursor (items c.args.self.now.entries) c.args.self.now.listed c.args.self.now.missing (length (places c.args.self.now.entries)) c.in-default.ensures in
+pub returns-in_default : goal.returns-in_default
+returns-in_default c =
+    let a = complete c.args.self.now.next c.in-ok-cursor.cursor c.in-ok-cursor.ensures.cursor (items c.args.self.now.entries) c.args.self.now.listed c.args.self.now.missing (length (places c.args.self.now.entries)) c.in_default.ensures in
     record { outcome = a; view = kept _ _ _ a; first = tt; few = tt; listings = listings; memory = refl; lender = refl }
 
 pub returns-in-err-check-room : goal.returns-in-err-check-room

@@ -17,7 +17,7 @@ loop-number-preserved c =
 pub returns : goal.returns
 returns c =
     let t = view c.args.table.now in
-    let done = c.in-default.ensures in
+    let done = c.in_default.ensures in
     let few = few_entries c.args.table.now.next in
-    let g = grown_all t (omega (arith, c.requires.room)) c.loop-number.count c.loop-number.invariant.1 (view c.loop-number.table) (view c.grow.new.self) c.loop-number.invariant.0 done.view (table_fault c.in-default.field-0) done.outcome in
+    let g = grown_all t (omega (arith, c.requires.room)) c.loop-number.count c.loop-number.invariant.1 (view c.loop-number.table) (view c.grow.new.self) c.loop-number.invariant.0 done.view (table_fault c.in_default.field-0) done.outcome in
     record { view = g.0; count = g.1 }

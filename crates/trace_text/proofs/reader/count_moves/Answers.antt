@@ -27,7 +27,7 @@ returns-in-err-next-move c =
 pub returns : goal.returns
 returns c =
     let inv = c.loop-count.invariant in
-    let none : Moved c.loop-count.reader c.next-move.new.self (Ok None) = rw c.in-default.is at c.in-ok-next-move.ensures.done in
+    let none : Moved c.loop-count.reader c.next-move.new.self (Ok None) = rw c.in_default.is at c.in-ok-next-move.ensures.done in
     record {
       counted = (inv.0, whole c.args.text.now c.new-reader.result c.loop-count.reader c.next-move.new.self inv.0 c.new-reader.ensures inv.1 none, inv.2);
       one = one_outcome;

@@ -33,7 +33,7 @@ pub returns : goal.returns
 returns c =
     let inv = c.loop-next.invariant in
     let w = items c.loop-next.moves in
-    let none : Moved c.loop-next.reader c.next-move.new.self (Ok None) = rw c.in-default.is at c.in-ok-next.ensures.done in
+    let none : Moved c.loop-next.reader c.next-move.new.self (Ok None) = rw c.in_default.is at c.in-ok-next.ensures.done in
     let few = front c.args.text.now c.new-reader.result c.loop-next.reader c.next-move.new.self w c.new-reader.ensures inv.0 c.requires.room.0 c.requires.room.1 in
     record {
       done = refl;

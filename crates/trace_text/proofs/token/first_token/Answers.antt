@@ -8,8 +8,8 @@ returns-in-err-first c =
     let item = c.in-err-first.ensures.item in
     rw c.from-residual.ensures (nil_from_length c.args.text.now (omega arith))
 
-pub returns-in-default : goal.returns-in-default
-returns-in-default c =
+pub returns-in_default : goal.returns-in_default
+returns-in_default c =
     let item = c.in-ok-first.ensures.item in
     let first = c.in-ok-first.field-0.now in (
       lit< tt,

@@ -6,11 +6,11 @@ pub overflow-add-count : goal.overflow-add-count
 overflow-add-count g c = let p = passing _ _ _ _ _ c.loop-from.invariant.1 c.leading-run-run.ensures in search rules
 
 pub loop-from-smaller : goal.loop-from-smaller
-loop-from-smaller g c = let p = passing _ _ _ _ _ c.loop-from.invariant.1 c.leading-run-run.ensures in omega arith
+loop-from-smaller g c = let p = passing _ _ _ _ _ c.loop-from.invariant.1 c.leading_run-run.ensures in omega arith
 
 pub loop-from-preserved : goal.loop-from-preserved
 loop-from-preserved g c =
-    let p = passing _ _ _ _ _ c.loop-from.invariant.1 c.leading-run-run.ensures in (omega arith, p.within, omega arith)
+    let p = passing _ _ _ _ _ c.loop-from.invariant.1 c.leading_run-run.ensures in (omega arith, p.within, omega arith)
 
 pub returns : goal.returns
 returns g c =

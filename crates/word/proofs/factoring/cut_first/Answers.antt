@@ -16,6 +16,6 @@ split-at-requires g c = period_within (g.O.Order.ranks c.args.order.now) c.args.
 pub returns : goal.returns
 returns g c =
     record {
-      parts = ap (λ p. Some (p, c.split-at.result.1.now)) c.split-at.ensures.front ∙ ap (λ q. Some (take c.leading-run-run.result.period c.args.word.now, q)) c.split-at.ensures.back ∙ first_some (g.O.Order.ranks c.args.order.now) c.args.word.now _ _ c.leading-run-run.ensures;
+      parts = ap (λ p. Some (p, c.split_at.result.1.now)) c.split_at.ensures.front ∙ ap (λ q. Some (take c.leading_run-run.result.period c.args.word.now, q)) c.split_at.ensures.back ∙ first_some (g.O.Order.ranks c.args.order.now) c.args.word.now _ _ c.leading_run-run.ensures;
       factorizations = factorizations (g.met.O.Order.total c.args.order.now);
     }

@@ -10,4 +10,4 @@ returns-then-word-size g c =
 
 pub returns-else-word-size : goal.returns-else-word-size
 returns-else-word-size g c =
-    record { answer = ap (λ n. leb n c.args.size) c.count-factors.ensures; factorizations = factorizations (g.met.O.Order.total c.args.order.now) }
+    record { answer = ap (λ n. leb n c.args.size) c.count_factors.ensures; factorizations = factorizations (g.met.O.Order.total c.args.order.now) }

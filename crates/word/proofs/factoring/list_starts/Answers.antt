@@ -27,15 +27,15 @@ push-starts-requires g c =
     record { last = omega arith; room = omega (arith, c.requires.room, p.counted) }
 
 pub loop-from-smaller : goal.loop-from-smaller
-loop-from-smaller g c = let p = passing _ _ _ _ _ c.loop-from.invariant.0 c.leading-run-run.ensures in omega arith
+loop-from-smaller g c = let p = passing _ _ _ _ _ c.loop-from.invariant.0 c.leading_run-run.ensures in omega arith
 
 pub loop-from-preserved : goal.loop-from-preserved
 loop-from-preserved g c =
-    let p = passing _ _ _ _ _ c.loop-from.invariant.0 c.leading-run-run.ensures in
-    let r = c.leading-run-run.result in
+    let p = passing _ _ _ _ _ c.loop-from.invariant.0 c.leading_run-run.ensures in
+    let r = c.leading_run-run.result in
     let was = items c.loop-from.starts in
-    let now = items c.push-starts.new.starts in
-    let pushed = c.push-starts.ensures in (
+    let now = items c.push_starts.new.starts in
+    let pushed = c.push_starts.ensures in (
       p.within,
       listed_more (g.O.Order.ranks c.args.order.now) c.args.word.now c.loop-from.from was _ c.loop-from.invariant.1 r.period r.count now p pushed.items,
       pushed.places ∙ ap (over now) c.loop-from.invariant.2 ∙ over-over (places c.clear.new.self) was now (omega (arith, ap length pushed.items, length-append was (paced c.loop-from.from r.period r.count))),

@@ -9,7 +9,7 @@ loop-mark-init c = onward_start c.args.self.now c.requires
 pub loop-mark-preserved : goal.loop-mark-preserved
 loop-mark-preserved c =
     let step = c.in-ok-ended.ensures in
-    (onward_next c.args.self.now c.loop-mark.self c.loop-mark.invariant c.next.new.self c.next.ensures.text c.step.new.self c.in-Some.mark c.in-Some.ensures.mark step.marks None (rw c.in-default-2.is at step.done)).0
+    (onward_next c.args.self.now c.loop-mark.self c.loop-mark.invariant c.next.new.self c.next.ensures.text c.step.new.self c.in-Some.mark c.in-Some.ensures.mark step.marks None (rw c.in_default-2.is at step.done)).0
 
 pub returns-in-Some-2 : goal.returns-in-Some-2
 returns-in-Some-2 c =
@@ -28,12 +28,12 @@ pub returns-in-Start : goal.returns-in-Start
 returns-in-Start c =
     record {
       text = c.next.ensures.text ∙ c.loop-mark.invariant.text;
-      done = ends c.args.self.now c.loop-mark.self c.loop-mark.invariant c.next.new.self c.next.ensures.text c.in-default.ensures.mark c.in-Start.is;
+      done = ends c.args.self.now c.loop-mark.self c.loop-mark.invariant c.next.new.self c.next.ensures.text c.in_default.ensures.mark c.in-Start.is;
     }
 
 pub returns-in-Next : goal.returns-in-Next
 returns-in-Next c =
     record {
       text = c.next.ensures.text ∙ c.loop-mark.invariant.text;
-      done = ends_early c.args.self.now c.loop-mark.self c.loop-mark.invariant c.next.new.self c.next.ensures.text c.in-default.ensures.mark c.in-Next.is;
+      done = ends_early c.args.self.now c.loop-mark.self c.loop-mark.invariant c.next.new.self c.next.ensures.text c.in_default.ensures.mark c.in-Next.is;
     }
