@@ -7,7 +7,7 @@ use Rattle.console.proofs.put_fault.Goals as goal
 pub returns-in-Ok : goal.returns-in-Ok
 returns-in-Ok c =
     let done = c.in-Ok.ensures in
-    let s = line_stands (fault_line c.args.number) c.args.line.now c.write-fault-line.new.buffer c.in-Ok.count done.outcome done.buffer in
+    let s = line_stands (fault_line c.args.number) c.args.line.now c.write_fault_line.new.buffer c.in-Ok.count done.outcome done.buffer in
     record { line = s.0; within = omega (arith, c.requires, s.1) }
 
 pub returns-in-Err : goal.returns-in-Err

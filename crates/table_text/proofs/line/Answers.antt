@@ -7,37 +7,37 @@ use Rattle.table_text.proofs.Lining.{line_closed, rows_listed, line_past, line_a
 use Rattle.table_text.proofs.Texts.{texts}
 use Rattle.table_text.proofs.line.Goals as goal
 
-pub returns-in-err-shape : goal.returns-in-err-shape
-returns-in-err-shape c =
+pub returns-in_err-shape : goal.returns-in_err-shape
+returns-in_err-shape c =
     let p = err_from_is_err_and c.from-residual.result c.from-residual.ensures.1 in
-    let closed = c.in-err-shape.ensures.shape in
+    let closed = c.in_err-shape.ensures.shape in
     let l = line_closed (view c.args.table.now) c.args.number c.args.buffer.now closed.0 in
     rw (p.1, p.2, closed.1) (record { outcome = l.0; buffer = l.1; same = refl; texts = texts })
 
 pub returns-then-number-entries : goal.returns-then-number-entries
 returns-then-number-entries c =
-    let l = line_past (view c.args.table.now) c.in-ok-shape.shape c.in-ok-shape.ensures.shape c.entries-entries.result.now c.entries-entries.ensures c.args.number c.args.buffer.now c.if-number-entries.true in
+    let l = line_past (view c.args.table.now) c.in_ok-shape.shape c.in_ok-shape.ensures.shape c.entries-entries.result.now c.entries-entries.ensures c.args.number c.args.buffer.now c.if-number-entries.true in
     record { outcome = l.0; buffer = l.1; same = refl; texts = texts }
 
-pub write-line-requires : goal.write-line-requires
-write-line-requires c =
-    record { listed = rows_listed (view c.args.table.now) c.in-ok-shape.shape c.in-ok-shape.ensures.shape c.entries-entries.result.now c.entries-entries.ensures c.args.number c.args.buffer.now c.in-ok-shape.ensures.sound; named = c.if-number-entries.false }
+pub write_line-requires : goal.write_line-requires
+write_line-requires c =
+    record { listed = rows_listed (view c.args.table.now) c.in_ok-shape.shape c.in_ok-shape.ensures.shape c.entries-entries.result.now c.entries-entries.ensures c.args.number c.args.buffer.now c.in_ok-shape.ensures.sound; named = c.if-number-entries.false }
 
-pub returns-in-err-written : goal.returns-in-err-written
-returns-in-err-written c =
-    let p = err_from_is_err_and c.from-residual-in-err-written.result c.from-residual-in-err-written.ensures.1 in
+pub returns-in_err-written : goal.returns-in_err-written
+returns-in_err-written c =
+    let p = err_from_is_err_and c.from-residual-in_err-written.result c.from-residual-in_err-written.ensures.1 in
     rw (p.1, p.2)
     (record {
-      outcome = line_at (view c.args.table.now) c.in-ok-shape.shape c.in-ok-shape.ensures.shape c.entries-entries.result.now c.entries-entries.ensures c.args.number c.args.buffer.now c.if-number-entries.false (refused (text_fault c.in-err-written.field-0.0)) c.in-err-written.ensures.outcome;
-      buffer = left_at (view c.args.table.now) c.in-ok-shape.shape c.in-ok-shape.ensures.shape c.entries-entries.result.now c.entries-entries.ensures c.args.number c.args.buffer.now c.if-number-entries.false c.write-line.new.buffer c.write-line.ensures.buffer;
+      outcome = line_at (view c.args.table.now) c.in_ok-shape.shape c.in_ok-shape.ensures.shape c.entries-entries.result.now c.entries-entries.ensures c.args.number c.args.buffer.now c.if-number-entries.false (refused (text_fault c.in_err-written.field-0.0)) c.in_err-written.ensures.outcome;
+      buffer = left_at (view c.args.table.now) c.in_ok-shape.shape c.in_ok-shape.ensures.shape c.entries-entries.result.now c.entries-entries.ensures c.args.number c.args.buffer.now c.if-number-entries.false c.write_line.new.buffer c.write_line.ensures.buffer;
       same = refl;
       texts = texts;
     })
 
 pub returns : goal.returns
 returns c = record {
-  outcome = line_at (view c.args.table.now) c.in-ok-shape.shape c.in-ok-shape.ensures.shape c.entries-entries.result.now c.entries-entries.ensures c.args.number c.args.buffer.now c.if-number-entries.false (answered c.in-ok-written.written) c.in-ok-written.ensures.outcome;
-  buffer = left_at (view c.args.table.now) c.in-ok-shape.shape c.in-ok-shape.ensures.shape c.entries-entries.result.now c.entries-entries.ensures c.args.number c.args.buffer.now c.if-number-entries.false c.write-line.new.buffer c.write-line.ensures.buffer;
+  outcome = line_at (view c.args.table.now) c.in_ok-shape.shape c.in_ok-shape.ensures.shape c.entries-entries.result.now c.entries-entries.ensures c.args.number c.args.buffer.now c.if-number-entries.false (answered c.in_ok-written.written) c.in_ok-written.ensures.outcome;
+  buffer = left_at (view c.args.table.now) c.in_ok-shape.shape c.in_ok-shape.ensures.shape c.entries-entries.result.now c.entries-entries.ensures c.args.number c.args.buffer.now c.if-number-entries.false c.write_line.new.buffer c.write_line.ensures.buffer;
   same = refl;
   texts = texts;
 }

@@ -2,5 +2,5 @@ use Rattle.lent_list.specs.Lent.{items}
 use Rattle.bracket_table.proofs.Growing.{empty_holds}
 use Rattle.bracket_table.proofs.Table.open.Goals as goal
 
-pub invariant-of-self : goal.invariant-of-self
-invariant-of-self c = empty_holds c.start.result (items c.clear.new.self) c.clear.ensures.items c.start.ensures.place.0 c.start.ensures.place.1
+pub invariant_of-self : goal.invariant_of-self
+invariant_of-self c = empty_holds c.start.result (items c.clear.new.self) c.clear.ensures.items c.start.ensures.place.0 c.start.ensures.place.1

@@ -6,14 +6,14 @@ use Rattle.coded_word.proofs.digits.code_of.Goals as goal
 pub loop-x-init : goal.loop-x-init
 loop-x-init c = (refl, omega (arith, pow-zero c.args.shape.k))
 
-pub overflow-mul-c : goal.overflow-mul-c
-overflow-mul-c c =
+pub overflow_mul-c : goal.overflow_mul-c
+overflow_mul-c c =
     let x = letter_at c.args.shape.k c.args.letters.now c.loop-x.x-index c.loop-x-test.true c.requires.letters in
     let h = below_top c.loop-x.c c.args.shape.k (get_or c.args.letters.now c.loop-x.x-index 0) c.loop-x.x-index (length c.args.letters.now) c.args.shape.n c.loop-x.invariant.1 x c.loop-x-test.true c.requires.short c.args.shape.some c.args.shape.few in
     search rules
 
-pub overflow-add-c : goal.overflow-add-c
-overflow-add-c c =
+pub overflow_add-c : goal.overflow_add-c
+overflow_add-c c =
     let x = letter_at c.args.shape.k c.args.letters.now c.loop-x.x-index c.loop-x-test.true c.requires.letters in
     let h = below_top c.loop-x.c c.args.shape.k (get_or c.args.letters.now c.loop-x.x-index 0) c.loop-x.x-index (length c.args.letters.now) c.args.shape.n c.loop-x.invariant.1 x c.loop-x-test.true c.requires.short c.args.shape.some c.args.shape.few in
     search rules

@@ -25,23 +25,23 @@ more k m c i h here j p l = go (cases_lt j i)
 pub pow-requires : goal.pow-requires
 pow-requires c = fits c.args.k (c.args.m - c.loop-i.i) c.args.m c.requires.0 c.requires.2 (omega arith)
 
-pub nonzero-rem-c : goal.nonzero-rem-c
-nonzero-rem-c c = some c.args.k (c.args.m - c.loop-i.i) c.pow.result c.requires.0 c.pow.ensures
+pub nonzero_rem-c : goal.nonzero_rem-c
+nonzero_rem-c c = some c.args.k (c.args.m - c.loop-i.i) c.pow.result c.requires.0 c.pow.ensures
 
-pub is-lyndon-requires : goal.is-lyndon-requires
-is-lyndon-requires c = (c.requires.0, omega arith, fewer c.args.k (c.args.m - c.loop-i.i) c.args.m c.requires.0 c.requires.2 (omega arith), below c.args.k (c.args.m - c.loop-i.i) c.pow.result c.args.c c.requires.0 c.pow.ensures)
+pub is_lyndon-requires : goal.is_lyndon-requires
+is_lyndon-requires c = (c.requires.0, omega arith, fewer c.args.k (c.args.m - c.loop-i.i) c.args.m c.requires.0 c.requires.2 (omega arith), below c.args.k (c.args.m - c.loop-i.i) c.pow.result c.args.c c.requires.0 c.pow.ensures)
 
-pub returns-then-is-lyndon : goal.returns-then-is-lyndon
-returns-then-is-lyndon c = record {
+pub returns-then-is_lyndon : goal.returns-then-is_lyndon
+returns-then-is_lyndon c = record {
   inside = (omega arith, omega arith);
   is = cut_first c.args.k c.args.m c.args.c c.requires.0 c.requires.3 c.loop-i.i (omega arith) (omega arith)
-      (sym c.if-is-lyndon.true ∙ (c.is_lyndon.ensures ∙ suffix c.args.k c.args.m c.args.c c.loop-i.i c.pow.result c.requires.0 c.requires.3 (omega arith) c.pow.ensures))
+      (sym c.if-is_lyndon.true ∙ (c.is_lyndon.ensures ∙ suffix c.args.k c.args.m c.args.c c.loop-i.i c.pow.result c.requires.0 c.requires.3 (omega arith) c.pow.ensures))
       c.loop-i.invariant;
 }
 
 pub loop-i-preserved : goal.loop-i-preserved
 loop-i-preserved c = λ j p l. more c.args.k c.args.m c.args.c c.loop-i.i c.loop-i.invariant
-    (sym c.if-is-lyndon.false ∙ (c.is_lyndon.ensures ∙ suffix c.args.k c.args.m c.args.c c.loop-i.i c.pow.result c.requires.0 c.requires.3 (omega arith) c.pow.ensures))
+    (sym c.if-is_lyndon.false ∙ (c.is_lyndon.ensures ∙ suffix c.args.k c.args.m c.args.c c.loop-i.i c.pow.result c.requires.0 c.requires.3 (omega arith) c.pow.ensures))
     j p l
 
 pub returns : goal.returns

@@ -10,10 +10,10 @@ loop-number-preserved c =
     let i = c.loop-number.number in
     let same = c.loop-number.invariant.1 in
     let before = vec_items c.loop-number.lines in
-    let after = vec_items c.push-line.new.lines in
-    let put = subst (λ t. after ≡ before ++ line_in (view t) i) same c.in-ok-push-line.ensures.lines in (
+    let after = vec_items c.push_line.new.lines in
+    let put = subst (λ t. after ≡ before ++ line_in (view t) i) same c.in_ok-push_line.ensures.lines in (
       lines_more (letters_in v.shape) i v.entries before after _ (omega (arith, c.requires)) put c.loop-number.invariant.0,
-      c.push-line.ensures.same ∙ same,
+      c.push_line.ensures.same ∙ same,
     )
 
 pub returns : goal.returns

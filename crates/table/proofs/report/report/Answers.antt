@@ -8,13 +8,13 @@ use Rattle.table.proofs.report.report.Goals as goal
 pub returns-in-Ok : goal.returns-in-Ok
 returns-in-Ok c =
     record {
-      printed = IfOk-weaker c.line-report.result _ _ (λ v p. subst (λ o. OutcomePrints LinePrints o (vec_items v)) c.in-Ok.ensures.outcome p) c.line-report.ensures;
+      printed = IfOk-weaker c.line_report.result _ _ (λ v p. subst (λ o. OutcomePrints LinePrints o (vec_items v)) c.in-Ok.ensures.outcome p) c.line_report.ensures;
       determined = determined;
     }
 
 pub returns-in-Err : goal.returns-in-Err
 returns-in-Err c =
     record {
-      printed = IfOk-weaker c.fault-report.result _ _ (λ v e. subst (λ o. OutcomePrints LinePrints o (vec_items v)) c.in-Err.ensures.outcome (e ∙ ap (λ g. fault_line g.number) c.fault.ensures)) c.fault-report.ensures;
+      printed = IfOk-weaker c.fault_report.result _ _ (λ v e. subst (λ o. OutcomePrints LinePrints o (vec_items v)) c.in-Err.ensures.outcome (e ∙ ap (λ g. fault_line g.number) c.fault.ensures)) c.fault_report.ensures;
       determined = determined;
     }

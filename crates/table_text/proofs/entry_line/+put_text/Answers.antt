@@ -5,24 +5,24 @@ use Rattle.table_text.specs.Lines.{text_of}
 use Rattle.table_text.proofs.Texts.{puts_one, puts_pair, letter_code, letter_text, shared, pair_text}
 use Rattle.table_text.proofs.entry_line.+put_text.Goals as goal
 
-pub overflow-cast-entry : goal.overflow-cast-entry
-overflow-cast-entry t c = let h = letter_code c.args.shape c.args.entries.now c.requires.listed c.args.number c.requires.named c.if-entry-eq1.true in search rules
+pub overflow_cast-entry : goal.overflow_cast-entry
+overflow_cast-entry t c = let h = letter_code c.args.shape c.args.entries.now c.requires.listed c.args.number c.requires.named c.if-entry-eq1.true in search rules
 
-pub symbol-of-requires : goal.symbol-of-requires
-symbol-of-requires t c = letter_code c.args.shape c.args.entries.now c.requires.listed c.args.number c.requires.named c.if-entry-eq1.true
+pub symbol_of-requires : goal.symbol_of-requires
+symbol_of-requires t c = letter_code c.args.shape c.args.entries.now c.requires.listed c.args.number c.requires.named c.if-entry-eq1.true
 
 pub returns-then-entry-eq1 : goal.returns-then-entry-eq1
 returns-then-entry-eq1 t c =
-    let p = puts_one c.args.place c.symbol-of.result c.args.buffer.now (omega (arith, c.if-entry-eq1.true, c.requires.room)) in
-    record { end = omega (arith, c.if-entry-eq1.true); text = rw (← letter_text c.args.shape c.args.entries.now c.requires.listed c.args.number c.requires.named c.if-entry-eq1.true, ← c.symbol-of.ensures) p }
+    let p = puts_one c.args.place c.symbol_of.result c.args.buffer.now (omega (arith, c.if-entry-eq1.true, c.requires.room)) in
+    record { end = omega (arith, c.if-entry-eq1.true); text = rw (← letter_text c.args.shape c.args.entries.now c.requires.listed c.args.number c.requires.named c.if-entry-eq1.true, ← c.symbol_of.ensures) p }
 
 pub bounds-buffer-place-2 : goal.bounds-buffer-place-2
 bounds-buffer-place-2 t c =
     let parts = shared c.args.shape c.args.entries.now c.requires.listed c.args.number c.requires.named c.if-entry-eq1.false in
     omega (arith, c.requires.room)
 
-pub put-text-comma-requires : goal.put-text-comma-requires
-put-text-comma-requires t c =
+pub put_text-comma-requires : goal.put_text-comma-requires
+put_text-comma-requires t c =
     let parts = shared c.args.shape c.args.entries.now c.requires.listed c.args.number c.requires.named c.if-entry-eq1.false in
     search (rules, length-set)
 
@@ -31,13 +31,13 @@ bounds-buffer-comma t c =
     let parts = shared c.args.shape c.args.entries.now c.requires.listed c.args.number c.requires.named c.if-entry-eq1.false in
     search (rules, length-set)
 
-pub overflow-add-comma : goal.overflow-add-comma
-overflow-add-comma t c =
+pub overflow_add-comma : goal.overflow_add-comma
+overflow_add-comma t c =
     let parts = shared c.args.shape c.args.entries.now c.requires.listed c.args.number c.requires.named c.if-entry-eq1.false in
     search (rules, length-set)
 
-pub put-text-close-requires : goal.put-text-close-requires
-put-text-close-requires t c =
+pub put_text-close-requires : goal.put_text-close-requires
+put_text-close-requires t c =
     let parts = shared c.args.shape c.args.entries.now c.requires.listed c.args.number c.requires.named c.if-entry-eq1.false in
     search (rules, length-set)
 
@@ -46,8 +46,8 @@ bounds-buffer-close t c =
     let parts = shared c.args.shape c.args.entries.now c.requires.listed c.args.number c.requires.named c.if-entry-eq1.false in
     search (rules, length-set)
 
-pub overflow-add-result-2 : goal.overflow-add-result-2
-overflow-add-result-2 t c =
+pub overflow_add-result-2 : goal.overflow_add-result-2
+overflow_add-result-2 t c =
     let parts = shared c.args.shape c.args.entries.now c.requires.listed c.args.number c.requires.named c.if-entry-eq1.false in
     search (rules, length-set)
 
@@ -58,5 +58,5 @@ returns t c =
       end = omega arith;
       text =
           rw (pair_text c.args.shape c.args.entries.now c.requires.listed c.args.number c.requires.named c.if-entry-eq1.false)
-          (puts_pair c.args.place c.put-text-comma.result c.put-text-close.result c.args.buffer.now c.put-text-comma.new.buffer c.put-text-close.new.buffer (text_of (word c.args.shape.k (get_or c.args.entries.now (get_or c.args.entries.now c.args.number no_entry).left no_entry))) (text_of (word c.args.shape.k (get_or c.args.entries.now (get_or c.args.entries.now c.args.number no_entry).right no_entry))) (omega (arith, c.requires.room)) (search (rules, length-set)) (search (rules, length-set)) c.put-text-comma.ensures.text c.put-text-close.ensures.text);
+          (puts_pair c.args.place c.put_text-comma.result c.put_text-close.result c.args.buffer.now c.put_text-comma.new.buffer c.put_text-close.new.buffer (text_of (word c.args.shape.k (get_or c.args.entries.now (get_or c.args.entries.now c.args.number no_entry).left no_entry))) (text_of (word c.args.shape.k (get_or c.args.entries.now (get_or c.args.entries.now c.args.number no_entry).right no_entry))) (omega (arith, c.requires.room)) (search (rules, length-set)) (search (rules, length-set)) c.put_text-comma.ensures.text c.put_text-close.ensures.text);
     }

@@ -9,26 +9,26 @@ loop-i-init c = symbols_start c.args.shape.k c.args.entry.length c.args.entry.co
 pub pow-weight-requires : goal.pow-weight-requires
 pow-weight-requires c = fits c.args.shape.k (c.args.entry.length - 1 - c.loop-i.i) c.args.shape.n c.args.shape.some c.args.shape.few (omega (arith, c.requires.short))
 
-pub nonzero-div-rest : goal.nonzero-div-rest
-nonzero-div-rest c = some c.args.shape.k (c.args.entry.length - 1 - c.loop-i.i) c.pow-weight.result c.args.shape.some c.pow-weight.ensures
+pub nonzero_div-rest : goal.nonzero_div-rest
+nonzero_div-rest c = some c.args.shape.k (c.args.entry.length - 1 - c.loop-i.i) c.pow-weight.result c.args.shape.some c.pow-weight.ensures
 
-pub nonzero-rem-rest : goal.nonzero-rem-rest
-nonzero-rem-rest c = some c.args.shape.k (c.args.entry.length - 1 - c.loop-i.i) c.pow-weight.result c.args.shape.some c.pow-weight.ensures
+pub nonzero_rem-rest : goal.nonzero_rem-rest
+nonzero_rem-rest c = some c.args.shape.k (c.args.entry.length - 1 - c.loop-i.i) c.pow-weight.result c.args.shape.some c.pow-weight.ensures
 
-pub overflow-cast-rest : goal.overflow-cast-rest
-overflow-cast-rest c =
+pub overflow_cast-rest : goal.overflow_cast-rest
+overflow_cast-rest c =
     let h : c.loop-i.rest / c.pow-weight.result < c.args.shape.k = rw c.pow-weight.ensures (letter_small c.args.shape.k c.args.entry.length c.args.entry.code c.loop-i.i c.loop-i.rest c.args.shape.some c.loop-i-test.true c.loop-i.invariant.1 c.loop-i.invariant.2) in
     let k = c.args.shape.letters in
     search rules
 
-pub symbol-of-requires : goal.symbol-of-requires
-symbol-of-requires c =
+pub symbol_of-requires : goal.symbol_of-requires
+symbol_of-requires c =
     let h : c.loop-i.rest / c.pow-weight.result < c.args.shape.k = rw c.pow-weight.ensures (letter_small c.args.shape.k c.args.entry.length c.args.entry.code c.loop-i.i c.loop-i.rest c.args.shape.some c.loop-i-test.true c.loop-i.invariant.1 c.loop-i.invariant.2) in
     omega (arith, c.args.shape.letters)
 
 pub loop-i-preserved : goal.loop-i-preserved
 loop-i-preserved c = (
-  symbols_next c.args.shape.k c.args.entry.length c.args.entry.code c.loop-i.i c.loop-i.rest c.args.shape.some c.loop-i-test.true c.loop-i.invariant.1 c.loop-i.invariant.2 c.loop-i.buffer (omega (arith, c.requires.room, c.loop-i.auto.buffer)) c.loop-i.invariant.0 c.symbol-of.result (rw c.pow-weight.ensures at c.symbol-of.ensures),
+  symbols_next c.args.shape.k c.args.entry.length c.args.entry.code c.loop-i.i c.loop-i.rest c.args.shape.some c.loop-i-test.true c.loop-i.invariant.1 c.loop-i.invariant.2 c.loop-i.buffer (omega (arith, c.requires.room, c.loop-i.auto.buffer)) c.loop-i.invariant.0 c.symbol_of.result (rw c.pow-weight.ensures at c.symbol_of.ensures),
   rw c.pow-weight.ensures (behind_next c.args.shape.k c.args.entry.length c.args.entry.code c.loop-i.i c.loop-i.rest c.args.shape.some c.loop-i-test.true c.loop-i.invariant.1 c.loop-i.invariant.2),
   rw c.pow-weight.ensures (small_next c.args.shape.k c.args.entry.length c.args.entry.code c.loop-i.i c.loop-i.rest c.args.shape.some c.loop-i-test.true c.loop-i.invariant.1 c.loop-i.invariant.2),
 )

@@ -7,7 +7,7 @@ use Rattle.trace.proofs.report.put_factor.Goals as goal
 pub returns-in-Ok : goal.returns-in-Ok
 returns-in-Ok c =
     let done = c.in-Ok.ensures in
-    let s = line_stands (factor_line c.args.start c.args.size) c.args.line.now c.write-factor-line.new.buffer c.in-Ok.count done.outcome done.buffer in
+    let s = line_stands (factor_line c.args.start c.args.size) c.args.line.now c.write_factor_line.new.buffer c.in-Ok.count done.outcome done.buffer in
     record { line = s.0; within = omega (arith, c.requires, s.1) }
 
 pub returns-in-Err : goal.returns-in-Err

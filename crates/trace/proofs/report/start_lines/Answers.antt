@@ -11,9 +11,9 @@ loop-i-preserved c =
     let i = c.loop-i.i in
     let left = start_lines (drop (i + 1) starts) c.args.moves in
     let before = vec_items c.loop-i.lines in
-    ap (λ l. l ++ left) c.in-ok-push-line.ensures
-    ∙ ap (λ n. (before ++ factor_line (get_or starts i 0) n) ++ left) c.saturating-sub-size.ensures
-    ∙ lines_more starts i c.args.moves c.end-of.result before c.loop-i-test.true c.end-of.ensures
+    ap (λ l. l ++ left) c.in_ok-push_line.ensures
+    ∙ ap (λ n. (before ++ factor_line (get_or starts i 0) n) ++ left) c.saturating_sub-size.ensures
+    ∙ lines_more starts i c.args.moves c.end_of.result before c.loop-i-test.true c.end_of.ensures
     ∙ c.loop-i.invariant
 
 pub returns : goal.returns

@@ -4,17 +4,17 @@ use Rattle.trace_text.specs.Tokens.{NotDigit}
 use Rattle.trace_text.proofs.Runs.{digits_more, begins_here, begins_past}
 use Rattle.trace_text.proofs.token.leading_digits.Goals as goal
 
-pub returns-then-not-is-digit : goal.returns-then-not-is-digit
-returns-then-not-is-digit c =
+pub returns-then-not-is_digit : goal.returns-then-not-is_digit
+returns-then-not-is_digit c =
     record {
       within = omega arith;
       digits = c.loop-place.invariant;
-      whole = begins_here NotDigit c.args.text.now c.loop-place.place c.loop-place-test.true (not_from_Decides c.is-digit.result c.is-digit.ensures c.if-not-is-digit.true);
+      whole = begins_here NotDigit c.args.text.now c.loop-place.place c.loop-place-test.true (not_from_Decides c.is_digit.result c.is_digit.ensures c.if-not-is_digit.true);
     }
 
 pub loop-place-preserved : goal.loop-place-preserved
 loop-place-preserved c =
-    digits_more c.args.text.now c.loop-place.place c.loop-place-test.true c.loop-place.invariant (c.if-not-is-digit.ensures.0 refl)
+    digits_more c.args.text.now c.loop-place.place c.loop-place-test.true c.loop-place.invariant (c.if-not-is_digit.ensures.0 refl)
 
 pub returns : goal.returns
 returns c =

@@ -2,8 +2,8 @@ use Rattle.std.proofs.Common.{length, ap, arith, rules}
 use Rattle.word.proofs.Runs.{passing, none_left}
 use Rattle.word.proofs.factoring.count_factors.Goals as goal
 
-pub overflow-add-count : goal.overflow-add-count
-overflow-add-count g c = let p = passing _ _ _ _ _ c.loop-from.invariant.1 c.leading-run-run.ensures in search rules
+pub overflow_add-count : goal.overflow_add-count
+overflow_add-count g c = let p = passing _ _ _ _ _ c.loop-from.invariant.1 c.leading_run-run.ensures in search rules
 
 pub loop-from-smaller : goal.loop-from-smaller
 loop-from-smaller g c = let p = passing _ _ _ _ _ c.loop-from.invariant.1 c.leading_run-run.ensures in omega arith

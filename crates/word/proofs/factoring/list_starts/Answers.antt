@@ -16,9 +16,9 @@ loop-from-init g c =
       refl,
     )
 
-pub push-starts-requires : goal.push-starts-requires
-push-starts-requires g c =
-    let p = passing _ _ _ _ _ c.loop-from.invariant.0 c.leading-run-run.ensures in
+pub push_starts-requires : goal.push_starts-requires
+push_starts-requires g c =
+    let p = passing _ _ _ _ _ c.loop-from.invariant.0 c.leading_run-run.ensures in
     let n = listed_length (g.O.Order.ranks c.args.order.now) c.args.word.now c.loop-from.from (items c.loop-from.starts) _ c.loop-from.invariant.1 in
     let m = length-starts 0 (factors (g.O.Order.ranks c.args.order.now) c.args.word.now) in
     let e = ap length c.loop-from.invariant.2 in

@@ -9,11 +9,11 @@ pub loop-i-init : goal.loop-i-init
 loop-i-init c =
     (sym (append-nil (items c.args.starts.now)), sym (over_front c.args.starts.now.count c.args.starts.now.memory.now), refl)
 
-pub overflow-add-from : goal.overflow-add-from
-overflow-add-from c = let n = mul-le-mul_right c.args.run.period c.loop-i-test.true in search rules
+pub overflow_add-from : goal.overflow_add-from
+overflow_add-from c = let n = mul-le-mul_right c.args.run.period c.loop-i-test.true in search rules
 
-pub overflow-cast-from : goal.overflow-cast-from
-overflow-cast-from c = let n = mul-le-mul_right c.args.run.period c.loop-i-test.true in search rules
+pub overflow_cast-from : goal.overflow_cast-from
+overflow_cast-from c = let n = mul-le-mul_right c.args.run.period c.loop-i-test.true in search rules
 
 pub loop-i-preserved : goal.loop-i-preserved
 loop-i-preserved c =

@@ -3,8 +3,8 @@ use Rattle.word.proofs.LastFactor.{found_last, passed_last}
 use Rattle.word.proofs.Runs.{passing}
 use Rattle.word.proofs.splitting.last_factor.Goals as goal
 
-pub overflow-sub-result : goal.overflow-sub-result
-overflow-sub-result g c = omega (arith, mul-le-mul_right c.leading-run-run.result.period c.leading-run-run.ensures.some)
+pub overflow_sub-result : goal.overflow_sub-result
+overflow_sub-result g c = omega (arith, mul-le-mul_right c.leading_run-run.result.period c.leading_run-run.ensures.some)
 
 pub returns-then-next-word : goal.returns-then-next-word
 returns-then-next-word g c =

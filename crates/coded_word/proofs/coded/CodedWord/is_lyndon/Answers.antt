@@ -1,5 +1,5 @@
 use Rattle.coded_word.proofs.Bounds.{fewer}
 use Rattle.coded_word.proofs.coded.CodedWord.is_lyndon.Goals as goal
 
-pub is-lyndon-requires : goal.is-lyndon-requires
-is-lyndon-requires c = (c.args.self.shape.some, c.args.self.some, fewer c.args.self.shape.k c.args.self.length c.args.self.shape.n c.args.self.shape.some c.args.self.shape.few c.args.self.short, c.args.self.coded)
+pub is_lyndon-requires : goal.is_lyndon-requires
+is_lyndon-requires c = (c.args.self.shape.some, c.args.self.some, fewer c.args.self.shape.k c.args.self.length c.args.self.shape.n c.args.self.shape.some c.args.self.shape.few c.args.self.short, c.args.self.coded)

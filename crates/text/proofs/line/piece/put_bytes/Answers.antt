@@ -4,4 +4,4 @@ use Rattle.text.proofs.line.piece.put_bytes.Goals as goal
 
 pub returns : goal.returns
 returns c =
-    puts_part c.args.place _ c.args.buffer.now c.args.bytes.now c.copy-from-slice.new.self c.requires (omega arith) c.copy-from-slice.ensures.after
+    puts_part c.args.place _ c.args.buffer.now c.args.bytes.now c.copy_from_slice.new.self c.requires (omega arith) c.copy_from_slice.ensures.after

@@ -8,20 +8,20 @@ loop-mark-init c = onward_start c.args.self.now c.requires
 
 pub loop-mark-preserved : goal.loop-mark-preserved
 loop-mark-preserved c =
-    let step = c.in-ok-ended.ensures in
+    let step = c.in_ok-ended.ensures in
     (onward_next c.args.self.now c.loop-mark.self c.loop-mark.invariant c.next.new.self c.next.ensures.text c.step.new.self c.in-Some.mark c.in-Some.ensures.mark step.marks None (rw c.in_default-2.is at step.done)).0
 
 pub returns-in-Some-2 : goal.returns-in-Some-2
 returns-in-Some-2 c =
-    let step = c.in-ok-ended.ensures in
+    let step = c.in_ok-ended.ensures in
     let on = onward_next c.args.self.now c.loop-mark.self c.loop-mark.invariant c.next.new.self c.next.ensures.text c.step.new.self c.in-Some.mark c.in-Some.ensures.mark step.marks (Some c.in-Some-2.ended) (rw c.in-Some-2.is at step.done) in
     record { text = on.0.text; done = (on.0.leads, on.1, on.0.ready) }
 
-pub returns-in-err-ended : goal.returns-in-err-ended
-returns-in-err-ended c =
+pub returns-in_err-ended : goal.returns-in_err-ended
+returns-in_err-ended c =
     let p = err_from_is_err_and c.from-residual.result c.from-residual.ensures.1 in
-    let step = c.in-err-ended.ensures in
-    let halts = halts_next c.args.self.now c.loop-mark.self c.loop-mark.invariant c.next.new.self c.next.ensures.text c.step.new.self c.in-Some.mark c.in-Some.ensures.mark step.marks c.in-err-ended.field-0.0 step.done in
+    let step = c.in_err-ended.ensures in
+    let halts = halts_next c.args.self.now c.loop-mark.self c.loop-mark.invariant c.next.new.self c.next.ensures.text c.step.new.self c.in-Some.mark c.in-Some.ensures.mark step.marks c.in_err-ended.field-0.0 step.done in
     record { text = ap (λ m. m.text.now) step.marks ∙ c.next.ensures.text ∙ c.loop-mark.invariant.text; done = rw (p.1, p.2) halts }
 
 pub returns-in-Start : goal.returns-in-Start

@@ -7,14 +7,14 @@ pub returns-in-Start-Sign : goal.returns-in-Start-Sign
 returns-in-Start-Sign c =
     record {
       marks = refl;
-      done = start_sign c.args.self.now c.args.mark c.requires.marked c.in-Start-Sign.bytes c.sense-of.result c.in-Start-Sign.is-0 c.in-Start-Sign.is-1 c.sense-of.ensures;
+      done = start_sign c.args.self.now c.args.mark c.requires.marked c.in-Start-Sign.bytes c.sense_of.result c.in-Start-Sign.is-0 c.in-Start-Sign.is-1 c.sense_of.ensures;
     }
 
 pub returns-in-Next-Sign : goal.returns-in-Next-Sign
 returns-in-Next-Sign c =
     record {
       marks = refl;
-      done = next_sign c.args.self.now c.args.mark c.requires.marked c.in-Next-Sign.bytes c.sense-of-in-Next-Sign.result c.in-Next-Sign.is-0 c.in-Next-Sign.is-1 c.sense-of-in-Next-Sign.ensures;
+      done = next_sign c.args.self.now c.args.mark c.requires.marked c.in-Next-Sign.bytes c.sense_of-in-Next-Sign.result c.in-Next-Sign.is-0 c.in-Next-Sign.is-1 c.sense_of-in-Next-Sign.ensures;
     }
 
 pub returns-in-Ok : goal.returns-in-Ok
@@ -24,8 +24,8 @@ returns-in-Ok c =
       done = axis_digits c.args.self.now c.args.mark c.requires.marked c.in-Axis-Digits.digits c.in-Axis-Digits.sense c.in-Ok.axis c.in-Axis-Digits.is-0 c.in-Axis-Digits.is-1 c.in-Ok.ensures;
     }
 
-pub overflow-add-result : goal.overflow-add-result
-overflow-add-result c =
+pub overflow_add-result : goal.overflow_add-result
+overflow_add-result c =
     let within = (axis_refused c.args.self.now c.args.mark c.requires.marked c.in-Axis-Digits.digits c.in-Axis-Digits.sense c.in-Err.offset c.in-Axis-Digits.is-0 c.in-Axis-Digits.is-1 c.in-Err.ensures).1 in
     let few = c.requires.few in
     let end = c.requires.marked.2 in
