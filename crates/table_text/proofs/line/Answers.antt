@@ -9,7 +9,7 @@ use Rattle.table_text.proofs.line.Goals as goal
 
 pub returns-in_err-shape : goal.returns-in_err-shape
 returns-in_err-shape c =
-    let p = err_from_is_err_and c.from-residual.result c.from-residual.ensures.1 in
+    let p = err_from_is_err_and c.from_residual.result c.from_residual.ensures.1 in
     let closed = c.in_err-shape.ensures.shape in
     let l = line_closed (view c.args.table.now) c.args.number c.args.buffer.now closed.0 in
     rw (p.1, p.2, closed.1) (record { outcome = l.0; buffer = l.1; same = refl; texts = texts })
@@ -25,7 +25,7 @@ write_line-requires c =
 
 pub returns-in_err-written : goal.returns-in_err-written
 returns-in_err-written c =
-    let p = err_from_is_err_and c.from-residual-in_err-written.result c.from-residual-in_err-written.ensures.1 in
+    let p = err_from_is_err_and c.from_residual-in_err-written.result c.from_residual-in_err-written.ensures.1 in
     rw (p.1, p.2)
     (record {
       outcome = line_at (view c.args.table.now) c.in_ok-shape.shape c.in_ok-shape.ensures.shape c.entries-entries.result.now c.entries-entries.ensures c.args.number c.args.buffer.now c.if-number-entries.false (refused (text_fault c.in_err-written.field-0.0)) c.in_err-written.ensures.outcome;

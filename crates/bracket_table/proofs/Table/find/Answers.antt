@@ -12,7 +12,7 @@ use Rattle.bracket_table.proofs.Table.find.Goals as goal
 
 pub returns-in_err-word : goal.returns-in_err-word
 returns-in_err-word c =
-    let p = err_from_is_err_and c.from-residual-in_err-word.result c.from-residual-in_err-word.ensures.1 in
+    let p = err_from_is_err_and c.from_residual-in_err-word.result c.from_residual-in_err-word.ensures.1 in
     rw (p.1, p.2)
     (record {
       outcome = find_refuses c.args.self.now.next c.in_ok-cursor.cursor c.in_ok-cursor.ensures.cursor (items c.args.self.now.entries) (length (places c.args.self.now.entries)) c.args.letters.now (word_fault c.in_err-word.field-0.0) c.in_err-word.ensures.outcome;

@@ -18,7 +18,7 @@ returns-in_default c =
 
 pub returns-in_err-check_room : goal.returns-in_err-check_room
 returns-in_err-check_room c =
-    let p = err_from_is_err_and c.from-residual-in_err-check_room.result c.from-residual-in_err-check_room.ensures.1 in
+    let p = err_from_is_err_and c.from_residual-in_err-check_room.result c.from_residual-in_err-check_room.ensures.1 in
     let a = full c.args.self.now.next c.in_ok-cursor.cursor c.in_ok-cursor.ensures.cursor (items c.args.self.now.entries) c.args.self.now.listed c.args.self.now.missing c.in-Some.word c.in-Some.ensures (length (places c.args.self.now.entries)) c.in_err-check_room.ensures.0 in
     rw (p.1, p.2, c.in_err-check_room.ensures.1) (record { outcome = a; view = kept _ _ _ a; first = tt; few = tt; listings = listings; memory = refl; lender = refl })
 

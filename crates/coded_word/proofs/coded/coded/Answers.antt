@@ -9,4 +9,6 @@ code_of-code-requires c = record {
 }
 
 pub invariant_of-result : goal.invariant_of-result
-invariant_of-result c = code_passed c.args.shape.k c.args.shape.n c.code_of-code.result c.args.letters.now c.requires.length c.requires.letters c.code_of-code.ensures
+invariant_of-result c =
+    let passed = code_passed c.args.shape.k c.args.shape.n c.code_of-code.result c.args.letters.now c.requires.length c.requires.letters c.code_of-code.ensures in
+    record { some = passed.0; short = passed.1.0; coded = passed.1.1.0 }

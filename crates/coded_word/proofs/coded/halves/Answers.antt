@@ -16,10 +16,18 @@ pub nonzero_rem-right : goal.nonzero_rem-right
 nonzero_rem-right c = some c.args.word.shape.k (c.args.word.length - c.cut_of-cut.result) c.pow-weight.result c.args.word.shape.some c.pow-weight.ensures
 
 pub invariant_of-left : goal.invariant_of-left
-invariant_of-left c = (c.cut_of-cut.ensures.inside.0, (omega (arith, c.args.word.short, c.cut_of-cut.ensures.inside.1), (quotient_coded c.args.word.shape.k c.args.word.length c.args.word.code c.cut_of-cut.result c.pow-weight.result c.args.word.shape.some c.args.word.coded (omega (arith, c.cut_of-cut.ensures.inside.1)) c.pow-weight.ensures, tt)))
+invariant_of-left c = record {
+  some = c.cut_of-cut.ensures.inside.0;
+  short = omega (arith, c.args.word.short, c.cut_of-cut.ensures.inside.1);
+  coded = quotient_coded c.args.word.shape.k c.args.word.length c.args.word.code c.cut_of-cut.result c.pow-weight.result c.args.word.shape.some c.args.word.coded (omega (arith, c.cut_of-cut.ensures.inside.1)) c.pow-weight.ensures;
+}
 
 pub invariant_of-right : goal.invariant_of-right
-invariant_of-right c = (omega (arith, c.cut_of-cut.ensures.inside.1), (omega (arith, c.args.word.short), (remainder_coded c.args.word.shape.k c.args.word.length c.args.word.code c.cut_of-cut.result c.pow-weight.result c.args.word.shape.some c.args.word.coded (omega (arith, c.cut_of-cut.ensures.inside.1)) c.pow-weight.ensures, tt)))
+invariant_of-right c = record {
+  some = omega (arith, c.cut_of-cut.ensures.inside.1);
+  short = omega (arith, c.args.word.short);
+  coded = remainder_coded c.args.word.shape.k c.args.word.length c.args.word.code c.cut_of-cut.result c.pow-weight.result c.args.word.shape.some c.args.word.coded (omega (arith, c.cut_of-cut.ensures.inside.1)) c.pow-weight.ensures;
+}
 
 pub returns : goal.returns
 returns c =

@@ -19,7 +19,7 @@ loop-count-preserved c =
 
 pub returns-in_err-next_move : goal.returns-in_err-next_move
 returns-in_err-next_move c =
-    let p = err_from_is_err_and c.from-residual.result c.from-residual.ensures.1 in
+    let p = err_from_is_err_and c.from_residual.result c.from_residual.ensures.1 in
     let inv = c.loop-count.invariant in
     let stop = halts c.args.text.now c.new-reader.result c.loop-count.reader c.next_move.new.self inv.0 c.new-reader.ensures inv.1 c.in_err-next_move.field-0.0 c.in_err-next_move.ensures.done in
     record { counted = rw (p.1, p.2) stop; one = one_outcome }

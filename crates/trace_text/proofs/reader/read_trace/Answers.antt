@@ -12,7 +12,7 @@ returns-then-text-gt-LONGEST c =
 
 pub returns-in_err-count : goal.returns-in_err-count
 returns-in_err-count c =
-    let p = err_from_is_err_and c.from-residual.result c.from-residual.ensures.1 in
+    let p = err_from_is_err_and c.from_residual.result c.from_residual.ensures.1 in
     rw (p.1, p.2)
     (record {
       outcome = malformed_read c.args.text.now (length (places c.args.moves.now)) c.in_err-count.field-0.0 c.if-text-gt-LONGEST.false c.in_err-count.ensures.counted;
@@ -24,6 +24,6 @@ returns-in_err-count c =
 
 pub returns-in_err-check_room : goal.returns-in_err-check_room
 returns-in_err-check_room c =
-    let p = err_from_is_err_and c.from-residual-in_err-check_room.result c.from-residual-in_err-check_room.ensures.1 in
+    let p = err_from_is_err_and c.from_residual-in_err-check_room.result c.from_residual-in_err-check_room.ensures.1 in
     let short = short_read c.args.text.now c.size.result c.in_ok-count.count (word_fault c.in_err-check_room.field-0.0) c.if-text-gt-LONGEST.false c.in_ok-count.ensures.counted c.in_err-check_room.ensures in
     rw (p.1, p.2) (record { outcome = rw c.size.ensures at short; count = tt; memory = refl; lender = refl; one = one_outcome })

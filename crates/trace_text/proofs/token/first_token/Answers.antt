@@ -6,7 +6,7 @@ use Rattle.trace_text.proofs.token.first_token.Goals as goal
 pub returns-in_err-first : goal.returns-in_err-first
 returns-in_err-first c =
     let item = c.in_err-first.ensures.item in
-    rw c.from-residual.ensures (nil_from_length c.args.text.now (omega arith))
+    rw c.from_residual.ensures (nil_from_length c.args.text.now (omega arith))
 
 pub returns-in_default : goal.returns-in_default
 returns-in_default c =

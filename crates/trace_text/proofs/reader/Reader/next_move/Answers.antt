@@ -19,7 +19,7 @@ returns-in-Some-2 c =
 
 pub returns-in_err-ended : goal.returns-in_err-ended
 returns-in_err-ended c =
-    let p = err_from_is_err_and c.from-residual.result c.from-residual.ensures.1 in
+    let p = err_from_is_err_and c.from_residual.result c.from_residual.ensures.1 in
     let step = c.in_err-ended.ensures in
     let halts = halts_next c.args.self.now c.loop-mark.self c.loop-mark.invariant c.next.new.self c.next.ensures.text c.step.new.self c.in-Some.mark c.in-Some.ensures.mark step.marks c.in_err-ended.field-0.0 step.done in
     record { text = ap (λ m. m.text.now) step.marks ∙ c.next.ensures.text ∙ c.loop-mark.invariant.text; done = rw (p.1, p.2) halts }

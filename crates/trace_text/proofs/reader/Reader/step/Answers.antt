@@ -46,17 +46,17 @@ returns-in_default c =
     let off : taken c.args.self.now.state c.args.mark.token ≡ false = search rules in
     record { marks = refl; done = (c.args.mark.place, refl, untaken c.args.self.now c.args.mark c.requires.marked off c.requires.behind) }
 
-pub returns-in_default·2 : goal.returns-in_default·2
-returns-in_default·2 c =
+pub returns-in_default-2 : goal.returns-in_default-2
+returns-in_default-2 c =
     let off : taken c.args.self.now.state c.args.mark.token ≡ false = search rules in
     record { marks = refl; done = (c.args.mark.place, refl, untaken c.args.self.now c.args.mark c.requires.marked off c.requires.behind) }
 
-pub returns-in_default·3 : goal.returns-in_default·3
-returns-in_default·3 c =
+pub returns-in_default-3 : goal.returns-in_default-3
+returns-in_default-3 c =
     let off : taken c.args.self.now.state c.args.mark.token ≡ false = search rules in
     record { marks = refl; done = (c.args.mark.place, refl, untaken c.args.self.now c.args.mark c.requires.marked off c.requires.behind) }
 
-pub returns-in_default·4 : goal.returns-in_default·4
-returns-in_default·4 c =
+pub returns-in_default-4 : goal.returns-in_default-4
+returns-in_default-4 c =
     let off : taken c.args.self.now.state c.args.mark.token ≡ false = search rules in
     record { marks = refl; done = (c.args.mark.place, refl, untaken c.args.self.now c.args.mark c.requires.marked off c.requires.behind) }
