@@ -31,7 +31,8 @@ entry_of-entry-requires c = record {
 pub invariant_of-self : goal.invariant_of-self
 invariant_of-self c =
     let made_so : c.entry_of-entry.result ≡ made c.in-Some.word.shape.k (items c.args.self.now.entries) c.in-Some.word.length c.in-Some.word.code = c.entry_of-entry.ensures ∙ ap (λ es. made c.in-Some.word.shape.k es c.in-Some.word.length c.in-Some.word.code) c.items.ensures.value in
-    grown_holds c.args.self.now.next c.in_ok-cursor.cursor c.in_ok-cursor.ensures.cursor (items c.args.self.now.entries) c.args.self.now.listed c.args.self.now.missing c.in-Some.word c.in-Some.ensures c.entry_of-entry.result made_so (items c.put.new.entries) c.put.ensures.items c.after.result c.after.ensures.shape c.after.ensures.length c.after.ensures.code
+    let holds = grown_holds c.args.self.now.next c.in_ok-cursor.cursor c.in_ok-cursor.ensures.cursor (items c.args.self.now.entries) c.args.self.now.listed c.args.self.now.missing c.in-Some.word c.in-Some.ensures c.entry_of-entry.result made_so (items c.put.new.entries) c.put.ensures.items c.after.result c.after.ensures.shape c.after.ensures.length c.after.ensures.code in
+    record { listed = holds.0; missing = holds.1.0 }
 
 pub returns : goal.returns
 returns c =
