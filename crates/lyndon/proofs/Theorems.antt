@@ -1,5 +1,5 @@
 -- The theorems on factorizations and splits.
-use Rattle.std.proofs.Common.{◌≡◌, ℕ, zero, suc, ◌+◌, ◌-◌, ◌<◌, ◌≤◌, List, [], ◌∷◌, ◌++◌, length, take, drop, Ordering, sym, refl, ap, ◌∙◌, subst, inl, inr, append_assoc, arith, length-append, length-drop, take-append-drop, length-take, length-take-le}
+use Rattle.std.proofs.Common.{◌≡◌, ℕ, zero, suc, ◌-◌, ◌<◌, ◌≤◌, List, [], ◌∷◌, ◌++◌, length, take, drop, Ordering, sym, refl, ap, ◌∙◌, subst, inl, inr, append_assoc, arith, length-append, length-drop, take-append-drop, length-take, length-take-le}
 use lib.Seq.{drop-append_seam, take-append_seam}
 use Rattle.letter_order.specs.Orders.{TotalOrder}
 use Rattle.lyndon.specs.Words.{Before, Lyndon, Factors, Split, joined}

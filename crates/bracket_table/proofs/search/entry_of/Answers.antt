@@ -1,6 +1,5 @@
 use Rattle.std.proofs.Common.{◌≡◌, ℕ, ◌<◌, ◌≤◌, List, length, ap, ◌∙◌, arith, rules}
 use Rattle.lyndon.specs.declared.entry.Entry.{Entry}
-use Rattle.lyndon.specs.Codes.{code}
 use Rattle.coded_word.specs.Codes.{Codes}
 use Rattle.bracket_table.specs.Search.{spot, spotted}
 use Rattle.bracket_table.proofs.Made.{made_letter, made_pair}

@@ -1,4 +1,4 @@
-use Rattle.std.proofs.Common.{◌≡◌, ◌-◌, ◌^◌, ◌<◌, map, length, take, drop}
+use Rattle.std.proofs.Common.{◌≡◌, ◌-◌, ◌^◌, ◌<◌, map, take, drop}
 use Rattle.lyndon.specs.Codes.{spelled}
 use Rattle.table_text.specs.Lines.{symbol}
 use Rattle.table_text.proofs.entry_line.put_word.Given as goal

@@ -1,6 +1,6 @@
 use Rattle.std.proofs.Common.{length, sym, refl, ap, ◌∙◌, subst, arith}
 use Rattle.std.proofs.lemmas.Result.{IfOk-weaker}
-use Rattle.lent_list.specs.Lent.{items, places}
+use Rattle.lent_list.specs.Lent.{items}
 use Rattle.text.specs.Faults.{text_fault}
 use Rattle.text.specs.Lines.{fault_line}
 use Rattle.trace.specs.Printed.{LinePrints}
