@@ -2,7 +2,7 @@
 use Rattle.std.proofs.Common.{◌≡◌, ℕ, suc, ◌+◌, ◌^◌, ◌<◌, ◌≤◌, Bool, true, false, cond, ◌&&◌, eqb, ltb, ◌⊎◌, List, [], ◌∷◌, length, take, Some, None, Option, Ordering, Less, Equal, Greater, sym, refl, ap, ◌∙◌, subst, inl, inr, add-zero, zero-add, arith}
 use borrow.Author.Tests.{clash}
 use Rattle.std.specs.Ordering.{is_eq}
-use Rattle.std.specs.List.{AllByRecursion as All}
+use Rattle.std.specs.List.{AllByRecursion}
 use Rattle.std.proofs.lemmas.Bool.{cases_Bool, cases_lt, and_from, and_parts, eq-eqb, eqb-true, both_ways, lt-ltb, le-ltb}
 use Rattle.faults.specs.declared.Layer.TheVariants as layer
 use Rattle.faults.specs.declared.Fault.{Fault}
@@ -62,7 +62,7 @@ module _ (k : ℕ) (some : 1 ≤ k) (w : List ℕ) (over : Over k w) where
           miss (inl q) = absurd (both_ways test t (hit q))
           miss (inr q) = q ∙ sym t
 
-  found_spot : (es : List Entry) → All (λ e. e.code < k ^ e.length) es → (i : ℕ) → found_from i (words k es) w ≡ cond (ltb (spot es (length w) (code k w)) (length es)) (Some (i + spot es (length w) (code k w))) None
+  found_spot : (es : List Entry) → AllByRecursion (λ e. e.code < k ^ e.length) es → (i : ℕ) → found_from i (words k es) w ≡ cond (ltb (spot es (length w) (code k w)) (length es)) (Some (i + spot es (length w) (code k w))) None
   found_spot [] a i = refl
   found_spot (e ∷ es) a i = go (cases_Bool (eqb e.length (length w) && eqb e.code (code k w))) (cases_lt (spot es (length w) (code k w)) (length es)) (found_spot es a.1 (suc i))
     where
@@ -83,7 +83,7 @@ module _ (k : ℕ) (some : 1 ≤ k) (w : List ℕ) (over : Over k w) where
       go (inr t) (inr l) more =
           rw (here, t, more, le-ltb (spot es (length w) (code k w)) (length es) l, le-ltb (suc (spot es (length w) (code k w))) (suc (length es)) (omega arith))
 
-  pub found_at : (es : List Entry) → All (λ e. e.code < k ^ e.length) es → below (spot es (length w) (code k w)) (length es) ≡ found_from 0 (words k es) w
+  pub found_at : (es : List Entry) → AllByRecursion (λ e. e.code < k ^ e.length) es → below (spot es (length w) (code k w)) (length es) ≡ found_from 0 (words k es) w
   found_at es a =
       sym (found_spot es a 0 ∙ ap (λ i. cond (ltb (spot es (length w) (code k w)) (length es)) (Some i) None) (zero-add (spot es (length w) (code k w))))
 
@@ -111,6 +111,6 @@ module _ (s : Option Cursor) (x : Cursor) (is : s ≡ Some x) (es : List Entry) 
   pub find_answers : es ≡ take (length es) (entries_in s) → (m c : ℕ) → answered (m, c) ≡ read_outcome x.shape.k x.shape.n w → answered (below (spot es m c) (length es)) ≡ find_outcome seen w
   find_answers listed m c told =
       let p = passed_both (length w, code x.shape.k w) (length w) (length_checked x.shape.n (length w)) (letters_checked x.shape.k w) (m, c) told in
-      let coded = subst (All (λ e. e.code < x.shape.k ^ e.length)) (sym (known s x is es listed)) (listing_coded x.shape.k x.shape.n x.shape.some (length es)) in
+      let coded = subst (AllByRecursion (λ e. e.code < x.shape.k ^ e.length)) (sym (known s x is es listed)) (listing_coded x.shape.k x.shape.n x.shape.some (length es)) in
       let at = found_at x.shape.k x.shape.some w (letters_below x.shape.k w p.1) es coded in
       rw (is, ← p.0, ← p.1, ap (λ z. z.0) p.2, ap (λ z. z.1) p.2) (ap answered at)

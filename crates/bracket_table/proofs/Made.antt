@@ -1,6 +1,6 @@
 -- The entry that a table makes is the next one of the listing.
 use Rattle.std.proofs.Common.{◌≡◌, ℕ, zero, suc, ◌<◌, true, false, cond, ◌&&◌, eqb, ◌⊎◌, List, [], ◌∷◌, map, length, get_or, take, drop, sym, refl, ap, ◌∙◌, subst, inl, inr, arith}
-use Rattle.std.specs.List.{AllByRecursion as All}
+use Rattle.std.specs.List.{AllByRecursion}
 use Rattle.std.proofs.lemmas.Bool.{cases_Bool, cases_eq, eq-eqb, ne_eqb}
 use Rattle.std.proofs.ByRecursion.{All-take, All-get_or}
 use Rattle.std.proofs.lemmas.List.{length-drop, length-take, take-map}
@@ -24,7 +24,7 @@ place_take (suc t) (x ∷ xs) m c h = go (cases_Bool (eqb x.0 m && eqb x.1 c)) (
     go (inr e) more = let l : suc (place xs m c) < suc t = simp e at h in rw e (ap suc (more (omega arith)))
 
 module _ (k n : ℕ) (some : 0 < k) where
-  spot_map : (ks xs : List (ℕ × ℕ)) (m c : ℕ) → All (Keyed k 1 n) xs → spot (map (entry k ks) xs) m c ≡ place xs m c
+  spot_map : (ks xs : List (ℕ × ℕ)) (m c : ℕ) → AllByRecursion (Keyed k 1 n) xs → spot (map (entry k ks) xs) m c ≡ place xs m c
   spot_map ks [] m c a = refl
   spot_map ks (x ∷ xs) m c a = rw (length-spelled k x.0 x.1, code-spelled k x.0 x.1 some a.0.high, spot_map ks xs m c a.1)
 

@@ -1,6 +1,6 @@
 -- The entries of a shape: the first Lyndon words, and their parts.
 use Rattle.std.proofs.Common.{◌≡◌, ℕ, suc, ◌^◌, ◌<◌, Bool, true, false, cond, ◌&&◌, eqb, ◌⊎◌, List, [], ◌∷◌, map, length, get_or, take, drop, sym, refl, ap, ◌∙◌, subst, inl, inr, arith, take-append-drop}
-use Rattle.std.specs.List.{AllByRecursion as All}
+use Rattle.std.specs.List.{AllByRecursion}
 use Rattle.std.proofs.lemmas.Bool.{cases_Bool, cases_order, both_ways, and_parts, and_from, eq-eqb, ne_eqb, eqb-true}
 use Rattle.std.proofs.ByRecursion.{All-take, All-map, All-weaker, All-get_or}
 use Rattle.std.proofs.lemmas.List.{length-take, length-drop, length-map, take_all, take-map, get_or-take, get_or-map}
@@ -17,11 +17,11 @@ use Rattle.lyndon.specs.Theorems.{FirstEntries, Lists, Listings}
 use Rattle.lyndon.proofs.Rises.{in_either, in_map, rising_take, rising_split, rising_at}
 use Rattle.lyndon.proofs.Keys.{Sooner, Keyed, keys_each, keys_rising, keys_has}
 
-pub rising_map : {A B : Type 0} (R : A → A → Type 0) (S : B → B → Type 0) (K : A → Type 0) (f : A → B) → ((x y : A) → K x → K y → R x y → S (f x) (f y)) → (xs : List A) → All K xs → Rising R xs → Rising S (map f xs)
+pub rising_map : {A B : Type 0} (R : A → A → Type 0) (S : B → B → Type 0) (K : A → Type 0) (f : A → B) → ((x y : A) → K x → K y → R x y → S (f x) (f y)) → (xs : List A) → AllByRecursion K xs → Rising R xs → Rising S (map f xs)
 rising_map R S K f up [] a r = tt
 rising_map {A} R S K f up (x ∷ xs) a r = (go xs a.1 r.0, rising_map R S K f up xs a.1 r.1)
   where
-    go : (ys : List A) → All K ys → All (R x) ys → All (S (f x)) (map f ys)
+    go : (ys : List A) → AllByRecursion K ys → AllByRecursion (R x) ys → AllByRecursion (S (f x)) (map f ys)
     go [] b q = tt
     go (y ∷ ys) b q = (up x y a.0 b.0 q.0, go ys b.1 q.1)
 
@@ -60,7 +60,7 @@ module _ (k n : ℕ) (some : 0 < k) where
   unfolding listing
   words_listed = go (keys k n) (keys_each k n)
     where
-      go : (xs : List (ℕ × ℕ)) → All (Keyed k 1 n) xs → map (word k) (map (entry k (keys k n)) xs) ≡ map (λ x. spelled k x.0 x.1) xs
+      go : (xs : List (ℕ × ℕ)) → AllByRecursion (Keyed k 1 n) xs → map (word k) (map (entry k (keys k n)) xs) ≡ map (λ x. spelled k x.0 x.1) xs
       go [] a = refl
       go (x ∷ xs) a = rw (word_entry (keys k n) x a.0, go xs a.1)
 
@@ -87,7 +87,7 @@ module _ (k n : ℕ) (some : 0 < k) where
       ws : List (List ℕ)
       ws = map (λ x. spelled k x.0 x.1) (keys k n)
 
-      go : (v : List ℕ) → In v (take t ws) ⊎ In v (drop t ws) → In v (take t ws) ⊎ All (λ w. Listed w v) (take t ws)
+      go : (v : List ℕ) → In v (take t ws) ⊎ In v (drop t ws) → In v (take t ws) ⊎ AllByRecursion (λ w. Listed w v) (take t ws)
       go v (inl h) = inl h
       go v (inr h) = inr (rising_split Listed (take t ws) (drop t ws) (rw (take-append-drop t ws) words_rising) v h)
 
@@ -205,7 +205,7 @@ module _ (k n : ℕ) (some : 0 < k) where
   listing_rising t = rising_take Earlier t (listing k n) (rising_map Sooner Earlier (Keyed k 1 n) (entry k (keys k n)) sooner_earlier (keys k n) (keys_each k n) (keys_rising k n))
 
   -- each code is one of a word of its length
-  pub listing_coded : (t : ℕ) → All (λ e. e.code < k ^ e.length) (take t (listing k n))
+  pub listing_coded : (t : ℕ) → AllByRecursion (λ e. e.code < k ^ e.length) (take t (listing k n))
   unfolding listing
   listing_coded t =
       All-take (λ e. e.code < k ^ e.length) t (listing k n)

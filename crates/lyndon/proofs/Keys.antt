@@ -1,6 +1,6 @@
 -- The keys of a shape: each Lyndon word once, in listing order.
 use Rattle.std.proofs.Common.{◌≡◌, ℕ, zero, suc, ◌+◌, ◌-◌, ◌^◌, ◌<◌, ◌≤◌, true, false, cond, ◌⊎◌, [], ◌∷◌, ◌++◌, sym, refl, ap, subst, inl, inr, arith}
-use Rattle.std.specs.List.{AllByRecursion as All}
+use Rattle.std.specs.List.{AllByRecursion}
 use Rattle.std.proofs.lemmas.Bool.{cases_Bool, cases_lt}
 use Rattle.std.proofs.ByRecursion.{All-append, All-weaker}
 use Rattle.lyndon.specs.Codes.{spelled}
@@ -28,12 +28,12 @@ pub record Keyed (k m n : ℕ) (x : ℕ × ℕ) : Type 0 where
 later : (k m c top : ℕ) (x : ℕ × ℕ) → Coded k m (c + 1) top x → Coded k m c top x
 later k m c top x h = record { size = h.size; low = omega (arith, h.low); high = h.high; lyn = h.lyn }
 
-pub codes_each : (k m c f top : ℕ) → c + f ≤ top → All (Coded k m c top) (codes k m c f)
+pub codes_each : (k m c f top : ℕ) → c + f ≤ top → AllByRecursion (Coded k m c top) (codes k m c f)
 unfolding codes
 codes_each k m c zero top h = tt
 codes_each k m c (suc f) top h = go (cases_Bool (lyndon (spelled k m c))) (All-weaker (Coded k m (c + 1) top) (Coded k m c top) (later k m c top) (codes k m (c + 1) f) (codes_each k m (c + 1) f top (omega arith)))
   where
-    go : (lyndon (spelled k m c) ≡ true) ⊎ (lyndon (spelled k m c) ≡ false) → All (Coded k m c top) (codes k m (c + 1) f) → All (Coded k m c top) (cond (lyndon (spelled k m c)) ((m, c) ∷ codes k m (c + 1) f) (codes k m (c + 1) f))
+    go : (lyndon (spelled k m c) ≡ true) ⊎ (lyndon (spelled k m c) ≡ false) → AllByRecursion (Coded k m c top) (codes k m (c + 1) f) → AllByRecursion (Coded k m c top) (cond (lyndon (spelled k m c)) ((m, c) ∷ codes k m (c + 1) f) (codes k m (c + 1) f))
     go (inl e) a = rw e (record { size = refl; low = omega arith; high = omega arith; lyn = e }, a)
     go (inr e) a = rw e a
 
@@ -59,7 +59,7 @@ codes_has k m c (suc f) d l h h' = go (cases_lt c d) (cases_Bool (lyndon (spelle
 keyed_later : (k m n : ℕ) (x : ℕ × ℕ) → Keyed k (m + 1) n x → Keyed k m n x
 keyed_later k m n x h = record { least = omega (arith, h.least); most = h.most; high = h.high; lyn = h.lyn }
 
-pub lengths_each : (k m j n : ℕ) → m + j ≤ n + 1 → All (Keyed k m n) (lengths k m j)
+pub lengths_each : (k m j n : ℕ) → m + j ≤ n + 1 → AllByRecursion (Keyed k m n) (lengths k m j)
 unfolding lengths
 lengths_each k m zero n h = tt
 lengths_each k m (suc j) n h =
@@ -72,7 +72,7 @@ unfolding lengths
 lengths_rising k m zero = tt
 lengths_rising k m (suc j) =
     rising_append Sooner (codes k m 0 (k ^ m)) (lengths k (m + 1) j) (codes_rising k m 0 (k ^ m)) (lengths_rising k (m + 1) j)
-    (All-weaker (Coded k m 0 (k ^ m)) (λ x. All (Sooner x) (lengths k (m + 1) j)) (λ x a.
+    (All-weaker (Coded k m 0 (k ^ m)) (λ x. AllByRecursion (Sooner x) (lengths k (m + 1) j)) (λ x a.
     All-weaker (Keyed k (m + 1) (m + j)) (Sooner x) (λ y b. inl (omega (arith, a.size, b.least))) (lengths k (m + 1) j) (lengths_each k (m + 1) j (m + j) (omega arith)))
     (codes k m 0 (k ^ m)) (codes_each k m 0 (k ^ m) (k ^ m) (omega arith)))
 
@@ -87,7 +87,7 @@ lengths_has k m (suc j) l d y h h' t = go (cases_lt m l) (λ b. lengths_has k (m
         let e : m ≡ l = omega arith in
         rw e (in_left (l, d) (codes k l 0 (k ^ l)) (lengths k (l + 1) j) (codes_has k l 0 (k ^ l) d y (omega arith) (omega arith)))
 
-pub keys_each : (k n : ℕ) → All (Keyed k 1 n) (keys k n)
+pub keys_each : (k n : ℕ) → AllByRecursion (Keyed k 1 n) (keys k n)
 unfolding keys
 keys_each k n = lengths_each k 1 n n (omega arith)
 

@@ -1,6 +1,6 @@
 -- The first Lyndon word of a shape that is missing.
 use Rattle.std.proofs.Common.{◌≡◌, ℕ, ◌⊎◌, List, [], ◌∷◌, ◌++◌, refl, inl, inr, arith}
-use Rattle.std.specs.List.{AllByRecursion as All}
+use Rattle.std.specs.List.{AllByRecursion}
 use Rattle.lyndon.specs.Codes.{Listed}
 use Rattle.lyndon.specs.Listing.{OfShape, In, First, FirstMissing}
 use Rattle.lyndon.proofs.Codes.{by_value_total}
@@ -11,7 +11,7 @@ not_itself : (v : List ℕ) → Listed v v → ⊥
 not_itself v (inl l) = omega arith
 not_itself v (inr b) = irrefl by_value_total v b.1
 
-all_last : {A : Type 0} (P : A → Type 0) (xs : List A) (x : A) → All P (xs ++ x ∷ []) → P x
+all_last : {A : Type 0} (P : A → Type 0) (xs : List A) (x : A) → AllByRecursion P (xs ++ x ∷ []) → P x
 all_last P [] x h = h.0
 all_last P (y ∷ xs) x h = all_last P xs x h.1
 
@@ -28,6 +28,6 @@ first_missing k n ws w F = record {
     last v none (inr (inl e)) = inl e
     last v none (inr (inr h)) = absurd h
 
-    go : (v : List ℕ) → (In v ws → ⊥) → In v (ws ++ w ∷ []) ⊎ All (λ u. Listed u v) (ws ++ w ∷ []) → (v ≡ w) ⊎ Listed w v
+    go : (v : List ℕ) → (In v ws → ⊥) → In v (ws ++ w ∷ []) ⊎ AllByRecursion (λ u. Listed u v) (ws ++ w ∷ []) → (v ≡ w) ⊎ Listed w v
     go v none (inl h) = last v none (in_either v ws (w ∷ []) h)
     go v none (inr a) = inr (all_last (λ u. Listed u v) ws w a)

@@ -1,6 +1,6 @@
 -- Lists in which each stands to every later one in a relation.
 use Rattle.std.proofs.Common.{ℕ, zero, suc, ◌<◌, ◌⊎◌, List, [], ◌∷◌, ◌++◌, map, length, get_or, take, ap, inl, inr, arith}
-use Rattle.std.specs.List.{AllByRecursion as All}
+use Rattle.std.specs.List.{AllByRecursion}
 use Rattle.std.proofs.ByRecursion.{All-append, All-take, All-get_or}
 use Rattle.lyndon.specs.Listing.{In, Rising}
 
@@ -22,7 +22,7 @@ in_either x (z ∷ xs) ys (inr h) = go (in_either x xs ys h)
     go (inl l) = inl (inr l)
     go (inr r) = inr r
 
-pub in_all : {A : Type 0} (P : A → Type 0) (x : A) (xs : List A) → All P xs → In x xs → P x
+pub in_all : {A : Type 0} (P : A → Type 0) (x : A) (xs : List A) → AllByRecursion P xs → In x xs → P x
 in_all P x [] a h = absurd h
 in_all P x (z ∷ xs) a (inl e) = rw e a.0
 in_all P x (z ∷ xs) a (inr h) = in_all P x xs a.1 h
@@ -33,7 +33,7 @@ in_map f x (z ∷ xs) (inl e) = inl (ap f e)
 in_map f x (z ∷ xs) (inr h) = inr (in_map f x xs h)
 
 module _ {A : Type 0} (R : A → A → Type 0) where
-  pub rising_append : (xs ys : List A) → Rising R xs → Rising R ys → All (λ x. All (R x) ys) xs → Rising R (xs ++ ys)
+  pub rising_append : (xs ys : List A) → Rising R xs → Rising R ys → AllByRecursion (λ x. AllByRecursion (R x) ys) xs → Rising R (xs ++ ys)
   rising_append [] ys a b h = b
   rising_append (x ∷ xs) ys a b h = (All-append (R x) xs ys a.0 h.0, rising_append xs ys a.1 b h.1)
 
@@ -43,7 +43,7 @@ module _ {A : Type 0} (R : A → A → Type 0) where
   rising_take (suc n) (x ∷ xs) a = (All-take (R x) n xs a.0, rising_take n xs a.1)
 
   -- what is before a place is in the relation to what stands from there on
-  pub rising_split : (xs ys : List A) → Rising R (xs ++ ys) → (y : A) → In y ys → All (λ x. R x y) xs
+  pub rising_split : (xs ys : List A) → Rising R (xs ++ ys) → (y : A) → In y ys → AllByRecursion (λ x. R x y) xs
   rising_split [] ys a y h = tt
   rising_split (x ∷ xs) ys a y h = (in_all (R x) y (xs ++ ys) a.0 (in_right y xs ys h), rising_split xs ys a.1 y h)
 

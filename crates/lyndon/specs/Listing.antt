@@ -1,6 +1,6 @@
 -- The Lyndon words of a shape: k letters, words of at most n of them.
 use Rattle.std.specs.Prelude.{◌≡◌, ℕ, zero, suc, ◌+◌, ◌-◌, ◌^◌, ◌≤◌, Bool, cond, ◌⊎◌, List, [], ◌∷◌, ◌++◌, length}
-use Rattle.std.specs.List.{AllByRecursion as All}
+use Rattle.std.specs.List.{AllByRecursion}
 use Rattle.letter_order.specs.Orders.{by_value}
 use Rattle.lyndon.specs.Words.{Lyndon}
 use Rattle.lyndon.specs.Factoring.{is_lyndon}
@@ -19,13 +19,13 @@ In x (y ∷ ys) = (x ≡ y) ⊎ In x ys
 -- each stands to every later one in the relation R
 abbrev pub Rising : {A : Type 0} → (A → A → Type 0) → List A → Type 0
 Rising R [] = Unit {0}
-Rising R (x ∷ xs) = All (R x) xs × Rising R xs
+Rising R (x ∷ xs) = AllByRecursion (R x) xs × Rising R xs
 
 -- ws are the first Lyndon words of the shape in listing order, each once and none skipped
 pub record First (k n : ℕ) (ws : List (List ℕ)) : Type 0 where
-  pub lyndon : All (OfShape k n) ws
+  pub lyndon : AllByRecursion (OfShape k n) ws
   pub rising : Rising Listed ws
-  pub unskipped : (v : List ℕ) → OfShape k n v → In v ws ⊎ All (λ w. Listed w v) ws
+  pub unskipped : (v : List ℕ) → OfShape k n v → In v ws ⊎ AllByRecursion (λ w. Listed w v) ws
 
 -- w is the first Lyndon word of the shape in listing order that is not among ws
 pub record FirstMissing (k n : ℕ) (ws : List (List ℕ)) (w : List ℕ) : Type 0 where

@@ -1,7 +1,7 @@
 -- Texts of words.
 use Rattle.std.proofs.Common.{◌≡◌, ℕ, zero, suc, ◌+◌, ◌-◌, ◌*◌, ◌/◌, ◌%◌, ◌^◌, ◌<◌, ◌≤◌, ◌⊎◌, List, [], ◌∷◌, ◌++◌, map, length, get_or, take, drop, set, sym, refl, ap, ◌∙◌, subst, inl, inr, append_assoc, mod-lt, div-lt_iff_lt-mul, one-mul, pow-suc, div-one, arith, length-append}
 use native.Mathlib.Nat.{pow-succ', pow-zero, one-le-pow}
-use Rattle.std.specs.List.{AllByRecursion as All}
+use Rattle.std.specs.List.{AllByRecursion}
 use Rattle.std.proofs.ByRecursion.{All-get_or}
 use Rattle.std.proofs.lemmas.List.{take_more, take_more_set, drop_more, drop-set-lt, map_push, length-drop, length-map, length-take-le, take_all}
 use Rattle.std.proofs.lemmas.Bool.{cases_lt, lt-ltb, le-ltb}
@@ -166,14 +166,14 @@ module _ (x : Shape) (es : List Entry) (listed : es ≡ take (length es) (listin
   pub coded : e.code < x.k ^ e.length
   coded =
       All-get_or (λ d. d.code < x.k ^ d.length) es i no_entry here
-      (subst (All (λ d. d.code < x.k ^ d.length)) (sym listed) (listing_coded x.k x.n x.some (length es)))
+      (subst (AllByRecursion (λ d. d.code < x.k ^ d.length)) (sym listed) (listing_coded x.k x.n x.some (length es)))
 
   of_shape : OfShape x.k x.n (word x.k e)
   of_shape =
-      let a : All (OfShape x.k x.n) (words x.k es) = subst (λ z. All (OfShape x.k x.n) (words x.k z)) (sym listed) (listing_first x.k x.n x.some (length es)).lyndon in
+      let a : AllByRecursion (OfShape x.k x.n) (words x.k es) = subst (λ z. AllByRecursion (OfShape x.k x.n) (words x.k z)) (sym listed) (listing_first x.k x.n x.some (length es)).lyndon in
       All-get_or (λ d. OfShape x.k x.n (word x.k d)) es i no_entry here (unmapped es a)
     where
-      unmapped : (ds : List Entry) → All (OfShape x.k x.n) (words x.k ds) → All (λ d. OfShape x.k x.n (word x.k d)) ds
+      unmapped : (ds : List Entry) → AllByRecursion (OfShape x.k x.n) (words x.k ds) → AllByRecursion (λ d. OfShape x.k x.n (word x.k d)) ds
       unmapped [] a = tt
       unmapped (d ∷ ds) a = (a.0, unmapped ds a.1)
 

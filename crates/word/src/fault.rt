@@ -24,12 +24,16 @@ impl WordFault {
     pub fn fault(self) -> Fault
         ensures { result ≡ word_fault self }
     {
-        let (number, position) = match self {
-            WordFault::ShortMemory => (6, 0),
-            WordFault::OtherLength => (12, 0),
-            WordFault::ForeignLetter(position) => (13, position),
-            WordFault::LongWord => (17, 0),
-            WordFault::NotLyndon => (18, 0),
+        let position = match self {
+            WordFault::ForeignLetter(position) => position,
+            _ => 0,
+        };
+        let number = match self {
+            WordFault::ShortMemory => 6,
+            WordFault::OtherLength => 12,
+            WordFault::ForeignLetter(_) => 13,
+            WordFault::LongWord => 17,
+            WordFault::NotLyndon => 18,
         };
         Fault::found(number, Layer::Word, 0, position)
     }
