@@ -1,5 +1,5 @@
 //! The calls on a table.
-ghost use Rattle.std.specs.Prelude.{◌≡◌, ◌<◌, ◌≤◌, [], ◌∷◌, ◌++◌, length, IfOk, Some, None, Ok, Err, MatchResult, slice_index_or, slice_set};
+ghost use Rattle.std.specs.Prelude.{◌≡◌, ◌<◌, ◌≤◌, [], ◌∷◌, ◌++◌, length, IfOk, OnErr, Some, None, MatchResult, slice_index_or, slice_set};
 ghost use Rattle.faults.specs.Outcome.{told};
 ghost use Rattle.lent_list.specs.Lent.{items, places};
 ghost use Rattle.lyndon.specs.Entries.{no_entry};
@@ -35,7 +35,7 @@ impl<'a> Table<'a> {
         ensures outcome { told (λ done. done) table_fault result ≡ shape_checked k n }
         ensures view { view self.new ≡ opened k n (shape_checked k n) (view self.old) }
         ensures memory { memory self.new ≡ memory self.old }
-        ensures refused { MatchResult result (λ _. ⊥ → ⊥) (λ _. self.new ≡ self.old) }
+        ensures refused { OnErr result (self.new ≡ self.old) }
         ensures lender { self.new.entries.memory.ghost_name ≡ self.old.entries.memory.ghost_name }
     {
         let shape = check_shape(k, n)?;

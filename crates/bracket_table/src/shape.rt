@@ -1,5 +1,5 @@
 //! Which k and n are a shape.
-ghost use Rattle.std.specs.Prelude.{◌≡◌, MatchResult};
+ghost use Rattle.std.specs.Prelude.{◌≡◌, IfOk};
 ghost use Rattle.faults.specs.Outcome.{told};
 ghost use Rattle.bracket_table.specs.Faults.{table_fault};
 ghost use Rattle.bracket_table.specs.Views.{shape_checked};
@@ -10,7 +10,7 @@ use coded_word::Shape;
 /// The shape of k letters and words of at most n of them.
 pub(crate) fn check_shape(k: u64, n: u64) -> Result<Shape, TableFault>
     ensures outcome { told (λ _. tt) table_fault result ≡ shape_checked k n }
-    ensures value { MatchResult result (λ s. (s.k ≡ k) × (s.n ≡ n)) (λ _. ⊥ → ⊥) }
+    ensures value { IfOk result (λ s. (s.k ≡ k) × (s.n ≡ n)) }
 {
     if k < 1 || k > 16 {
         return Err(TableFault::Letters);

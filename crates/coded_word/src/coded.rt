@@ -1,10 +1,10 @@
 //! Words by their codes, and the scan through the Lyndon words of a shape.
-ghost use Rattle.std.specs.Prelude.{◌≡◌, ℕ, ◌+◌, ◌^◌, ◌<◌, ◌≤◌, [], ◌∷◌, length, take, drop, MatchOption, MatchResult};
+ghost use Rattle.std.specs.Prelude.{◌≡◌, ℕ, ◌+◌, ◌^◌, ◌<◌, ◌≤◌, length, take, drop, MatchOption, IfOk};
 ghost use Rattle.faults.specs.Outcome.{told};
 ghost use Rattle.faults.specs.Outcome.Outcome.{answered};
 ghost use Rattle.lyndon.specs.Codes.{spelled};
 ghost use Rattle.lyndon.specs.Entries.{cut};
-ghost use Rattle.lyndon.specs.Listing.{lyndon, rest};
+ghost use Rattle.lyndon.specs.Listing.{lyndon};
 ghost use Rattle.word.specs.Faults.{word_fault, length_checked, letters_checked};
 ghost use Rattle.coded_word.specs.Codes.{Codes, read_outcome};
 
@@ -45,7 +45,7 @@ impl CodedWord {
     /// The word with these letters.
     pub fn read(shape: Shape, letters: &[u8]) -> Result<CodedWord, WordFault>
         ensures outcome { told {Y = ℕ × ℕ} (λ w. (w.length, w.code)) word_fault result ≡ read_outcome shape.k shape.n letters.now }
-        ensures shape { MatchResult result (λ w. w.shape ≡ shape) (λ _. ⊥ → ⊥) }
+        ensures shape { IfOk result (λ w. w.shape ≡ shape) }
     {
         check_length(shape.n as usize, letters.len())?;
         check_letters(shape.k, letters)?;
@@ -88,6 +88,8 @@ impl CodedWord {
 }
 
 impl Cursor {
+    ghost use Rattle.coded_word.specs.Scan.{FirstFrom};
+
     /// The first place.
     pub fn start(shape: Shape) -> Cursor
         ensures shape { result.shape ≡ shape }
@@ -102,8 +104,14 @@ impl Cursor {
 
     /// The first Lyndon word from here on, or none.
     pub fn next(self) -> Option<CodedWord>
-        ensures { MatchOption result (rest self.shape.k self.shape.n self.length self.code ≡ [])
-            (λ w. (w.shape ≡ self.shape) × (rest self.shape.k self.shape.n self.length self.code ≡ (w.length, w.code) ∷ rest self.shape.k self.shape.n w.length (w.code + 1))) }
+        ensures { FirstFrom self result }
+    {
+        self.scan()
+    }
+
+    // word by word, up to the end of each length
+    fn scan(self) -> Option<CodedWord>
+        ensures { FirstFrom self result }
     {
         let k = self.shape.k as u16;
         let mut length = self.length;

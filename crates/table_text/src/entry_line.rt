@@ -113,6 +113,7 @@ fn write_fields<'a>(
 }
 
 /// Writes the line of an entry to the front of a buffer.
+#[tactic(auto, using(crate::proofs::Texts::few_letters, crate::proofs::Texts::coded))]
 pub(crate) fn write_line(
     shape: Shape,
     entries: &[Entry],

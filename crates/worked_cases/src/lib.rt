@@ -40,6 +40,7 @@ const CASES: [Case; 9] = [
 ];
 
 /// All of them.
+#[tactic(auto, unfolding(lyndon::specs::Listing::lyndon, lyndon::specs::Listing::codes, lyndon::specs::Listing::lengths, lyndon::specs::Listing::keys, lyndon::specs::Entries::listing, table_text::specs::Lines::text))]
 pub fn cases() -> [Case; 9]
     ensures { AllHold result }
 {

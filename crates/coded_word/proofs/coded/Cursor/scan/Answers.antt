@@ -1,7 +1,7 @@
 use Rattle.std.proofs.Common.{ℕ, ◌+◌, ◌-◌, ◌*◌, ◌^◌, ◌<◌, ◌≤◌, sym, refl, ◌∙◌, arith}
 use Rattle.coded_word.proofs.Bounds.{fits, fewer, not_longest}
 use Rattle.lyndon.proofs.Keys.{rest_found, rest_passed, rest_longer, rest_none}
-use Rattle.coded_word.proofs.coded.Cursor.next.Goals as goal
+use Rattle.coded_word.proofs.coded.Cursor.scan.Goals as goal
 
 pub pow-requires : goal.pow-requires
 pow-requires c = fits c.args.self.shape.k c.loop-code.length c.args.self.shape.n c.args.self.shape.some c.args.self.shape.few c.loop-code.invariant.2
