@@ -29,12 +29,12 @@ pub enum TableFault {
     Text(TextFault),
 }
 
-impl TableFault {
-    /// Its number, with the layer that found it and those that passed it up.
-    pub fn fault(self) -> Fault
-        ensures { result ≡ table_fault self }
-    {
-        let number = match self {
+/// Its number, with the layer that found it and those that passed it up.
+impl From<TableFault> for Fault {
+    ghost from_gives = { λ refused fault. fault ≡ table_fault refused };
+
+    fn from(refused: TableFault) -> Fault {
+        let number = match refused {
             TableFault::Letters => 1,
             TableFault::Depth => 2,
             TableFault::ManyWords => 3,
@@ -42,8 +42,8 @@ impl TableFault {
             TableFault::Closed => 8,
             TableFault::Complete => 9,
             TableFault::NoEntry => 10,
-            TableFault::Word(lower) => return lower.fault().passed_by(Layer::Table),
-            TableFault::Text(lower) => return lower.fault().passed_by(Layer::Table),
+            TableFault::Word(lower) => return Fault::from(lower).passed_by(Layer::Table),
+            TableFault::Text(lower) => return Fault::from(lower).passed_by(Layer::Table),
         };
         Fault::found(number, Layer::Table, 0, 0)
     }

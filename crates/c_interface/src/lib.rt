@@ -7,6 +7,7 @@ ghost use Rattle.letter_order.specs.Orders.{by_value};
 ghost use Rattle.word.specs.Calls.{factor_outcome, starts_of};
 ghost use Rattle.c_interface.specs.Shown.{number_answered, fault_number, filled};
 
+use faults::Fault;
 use lent_list::LentList;
 use letter_order::ByValue;
 use word::factor;
@@ -27,7 +28,7 @@ pub extern "C" fn lyndon_factor(word: &[u8], starts: &mut [u16], fault: &mut u8)
             count
         }
         Err(refused) => {
-            *fault = refused.fault().number;
+            *fault = Fault::from(refused).number;
             0
         }
     }

@@ -5,6 +5,7 @@ ghost use Rattle.table.specs.Printed.{Determined, LinePrints, Prints, ShapePrint
 use crate::lines::table_lines;
 use bracket_table::Table;
 use console::fault_report;
+use faults::Fault;
 use input_text::{Numbers, read_shape};
 use lyndon::Entry;
 use std::alloc::{AllocError, Global};
@@ -17,7 +18,7 @@ pub fn report(heap: Global, input: &[u8]) -> Result<Vec<u8>, AllocError>
 {
     match first_line(input) {
         Ok(line) => line_report(heap, line),
-        Err(refused) => fault_report(heap, refused.fault().number),
+        Err(refused) => fault_report(heap, Fault::from(refused).number),
     }
 }
 
@@ -27,7 +28,7 @@ fn line_report(heap: Global, line: &[u8]) -> Result<Vec<u8>, AllocError>
 {
     match read_shape(line) {
         Ok(numbers) => shape_report(heap, numbers),
-        Err(refused) => fault_report(heap, refused.fault().number),
+        Err(refused) => fault_report(heap, Fault::from(refused).number),
     }
 }
 
@@ -46,6 +47,6 @@ fn shape_report(heap: Global, numbers: Numbers) -> Result<Vec<u8>, AllocError>
     let mut table = Table::fresh(&mut memory);
     match table.open(numbers.k as u64, numbers.n as u64) {
         Ok(()) => table_lines(heap, numbers, &mut table),
-        Err(refused) => fault_report(heap, refused.fault().number),
+        Err(refused) => fault_report(heap, Fault::from(refused).number),
     }
 }

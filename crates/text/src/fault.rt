@@ -18,16 +18,16 @@ pub enum TextFault {
     Word(WordFault),
 }
 
-impl TextFault {
-    /// Its number, with the layer that found it and those that passed it up.
-    pub fn fault(self) -> Fault
-        ensures { result ≡ text_fault self }
-    {
-        match self {
+/// Its number, with the layer that found it and those that passed it up.
+impl From<TextFault> for Fault {
+    ghost from_gives = { λ refused fault. fault ≡ text_fault refused };
+
+    fn from(refused: TextFault) -> Fault {
+        match refused {
             TextFault::ShortBuffer => Fault::found(7, Layer::Text, 0, 0),
             TextFault::LongText => Fault::found(14, Layer::Text, 0, 0),
             TextFault::Malformed(place) => Fault::found(15, Layer::Text, place, 0),
-            TextFault::Word(lower) => lower.fault().passed_by(Layer::Text),
+            TextFault::Word(lower) => Fault::from(lower).passed_by(Layer::Text),
         }
     }
 }

@@ -7,6 +7,7 @@ ghost use Rattle.text.specs.Lines.{factor_line};
 ghost use Rattle.trace.specs.Printed.{Determined, LinePrints, Prints, factor_lines, next_start, start_lines};
 
 use console::fault_report;
+use faults::Fault;
 use lent_list::LentList;
 use letter_order::{ByAxis, Move, Reversed, Sense};
 use std::alloc::{AllocError, Global};
@@ -24,7 +25,7 @@ pub fn report(heap: Global, input: &[u8]) -> Result<Vec<u8>, AllocError>
 {
     match first_line(input) {
         Ok(line) => line_report(heap, line),
-        Err(refused) => fault_report(heap, refused.fault().number),
+        Err(refused) => fault_report(heap, Fault::from(refused).number),
     }
 }
 
@@ -84,7 +85,7 @@ fn factor_report(heap: Global, moves: &[Move]) -> Result<Vec<u8>, AllocError>
     let mut starts = LentList::new(&mut memory);
     match factor(&Reversed(ByAxis), moves, &mut starts) {
         Ok(_) => start_lines(heap, starts.items(), moves.len() as u16),
-        Err(refused) => fault_report(heap, refused.fault().number),
+        Err(refused) => fault_report(heap, Fault::from(refused).number),
     }
 }
 
@@ -101,6 +102,6 @@ fn line_report(heap: Global, line: &[u8]) -> Result<Vec<u8>, AllocError>
     let mut moves = LentList::new(&mut memory);
     match read_trace(line, &mut moves) {
         Ok(_) => factor_report(heap, moves.items()),
-        Err(refused) => fault_report(heap, refused.fault().number),
+        Err(refused) => fault_report(heap, Fault::from(refused).number),
     }
 }

@@ -19,16 +19,16 @@ pub enum WordFault {
     NotLyndon,
 }
 
-impl WordFault {
-    /// Its number, with the layer that found it, and the position of the letter that it is about.
-    pub fn fault(self) -> Fault
-        ensures { result ≡ word_fault self }
-    {
-        let position = match self {
+/// Its number, with the layer that found it, and the position of the letter that it is about.
+impl From<WordFault> for Fault {
+    ghost from_gives = { λ refused fault. fault ≡ word_fault refused };
+
+    fn from(refused: WordFault) -> Fault {
+        let position = match refused {
             WordFault::ForeignLetter(position) => position,
             _ => 0,
         };
-        let number = match self {
+        let number = match refused {
             WordFault::ShortMemory => 6,
             WordFault::OtherLength => 12,
             WordFault::ForeignLetter(_) => 13,
