@@ -6,14 +6,15 @@ use crate::order::Order;
 use std::cmp::Ordering;
 
 /// Which way a move goes along its axis.
-#[derive(Clone, Copy, PartialEq, Eq, PartialOrd, Ord, Debug)]
+#[derive(Clone, Copy, PartialEq, Eq, PartialOrd, Ord, Default, Debug)]
 pub enum Sense {
+    #[default]
     Reverse,
     Forward,
 }
 
-/// A move along an axis.
-#[derive(Clone, Copy, PartialEq, Eq, Debug)]
+/// A move along an axis. Its order is by axis, and along one axis by sense.
+#[derive(Clone, Copy, PartialEq, Eq, PartialOrd, Ord, Default, Debug)]
 pub struct Move {
     pub axis: u8,
     pub sense: Sense,
@@ -29,6 +30,6 @@ impl Order<Move> for ByAxis {
     ghost total = { Prim.search rules };
 
     fn compare(&self, x: &Move, y: &Move) -> Ordering {
-        x.axis.cmp(&y.axis).then(x.sense.cmp(&y.sense))
+        x.cmp(y)
     }
 }

@@ -27,7 +27,7 @@ pub trait Order<L> {
 }
 
 /// Letters that are numbers, by their value.
-#[derive(Clone, Copy)]
+#[derive(Clone, Copy, Default, Debug)]
 pub struct ByValue;
 
 impl Order<u8> for ByValue {

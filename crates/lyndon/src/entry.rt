@@ -1,7 +1,7 @@
 //! The entries of a listing.
 
 /// A Lyndon word, with the numbers of the two entries of its split.
-#[derive(Clone, Copy, PartialEq, Eq, Debug)]
+#[derive(Clone, Copy, PartialEq, Eq, Default, Debug)]
 pub struct Entry {
     /// How many letters the word has.
     pub length: u8,

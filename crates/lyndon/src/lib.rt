@@ -22,12 +22,13 @@ pub fn compare_words<L, O: Order<L>>(order: &O, u: &[L], v: &[L]) -> Ordering
 }
 
 /// What the letters of two words decide, up to the end of the shorter word.
+#[tactic(auto, using(crate::proofs::Dictionary::dictionary_total, crate::proofs::Comparing::ended, crate::proofs::Comparing::decides_alone))]
 fn compare_letters<L, O: Order<L>>(order: &O, u: &[L], v: &[L]) -> Ordering
     ensures answer { ordering_then result (by_value (length u.now) (length v.now)) ≡ dictionary (O.ranks order.now) u.now v.now }
     ensures total { TotalOrder (dictionary (O.ranks order.now)) }
 {
-    for i in 0..u.len().min(v.len()) {
-        match order.compare(&u[i], &v[i]) {
+    for (x, y) in u.iter().zip(v) {
+        match order.compare(x, y) {
             Ordering::Equal => {}
             decided => return decided,
         }
