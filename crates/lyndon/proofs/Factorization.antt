@@ -2,7 +2,8 @@
 use Rattle.std.proofs.Common.{◌≡◌, ◌+◌, ◌<◌, ◌≤◌, cond, List, [], ◌∷◌, ◌++◌, length, Ordering, Less, Equal, Greater, sym, refl, ap, ◌∙◌, subst, inl, inr, append_assoc, append-nil, arith, length-append}
 use Rattle.std.specs.Ordering.{is_lt}
 use Rattle.letter_order.specs.Orders.{TotalOrder}
-use Rattle.lyndon.specs.Words.{dictionary, Before, Lyndon, Each, Falling, Factors, joined}
+use Rattle.std.specs.List.{AllByRecursion}
+use Rattle.lyndon.specs.Words.{dictionary, Before, Lyndon, Falling, Factors, joined}
 use Rattle.lyndon.specs.Factoring.{factors, merged}
 use Rattle.lyndon.proofs.Orders.{equal_less, greater_less}
 use Rattle.lyndon.proofs.Dictionary.{trans, lt_le, prefix, prefix_low}
@@ -16,7 +17,7 @@ no_word : {A : Type 0} (s t : List A) → ◌≡◌ {A = List A} [] (s ++ t) →
 no_word s t e h = omega (arith, ap length e ∙ length-append s t)
 
 -- no more words than letters
-pub few_words : {A : Type 0} (ranks : A → A → Ordering) (fs : List (List A)) → Each (Lyndon ranks) fs → length fs ≤ length (joined fs)
+pub few_words : {A : Type 0} (ranks : A → A → Ordering) (fs : List (List A)) → AllByRecursion (Lyndon ranks) fs → length fs ≤ length (joined fs)
 few_words ranks [] F = omega arith
 few_words ranks (f ∷ fs) F = omega (arith, F.0.some, few_words ranks fs F.1, length-append f (joined fs))
 
@@ -27,7 +28,7 @@ module _ {A : Type 0} {ranks : A → A → Ordering} (o : TotalOrder ranks) wher
 
   -- ---- it exists
 
-  merged_factors : (l : List A) (fs : List (List A)) → Lyndon ranks l → Each (Lyndon ranks) fs → Falling ranks fs → Factors ranks (l ++ joined fs) (merged ranks l fs)
+  merged_factors : (l : List A) (fs : List (List A)) → Lyndon ranks l → AllByRecursion (Lyndon ranks) fs → Falling ranks fs → Factors ranks (l ++ joined fs) (merged ranks l fs)
   merged_factors l [] L F h = record { whole = refl; lyndon = (L, tt); falls = tt }
   merged_factors l (f ∷ fs) L F h =
       go (dictionary ranks l f) refl (λ k. merged_factors (l ++ f) fs (join o l f L F.0 k) F.1 (falling_tail f fs h))
@@ -48,16 +49,16 @@ module _ {A : Type 0} {ranks : A → A → Ordering} (o : TotalOrder ranks) wher
 
   -- ---- there is one
 
-  weaken : (f g : List A) (fs : List (List A)) → (Before ranks f g → ⊥) → Each (λ x. Before ranks g x → ⊥) fs → Each (λ x. Before ranks f x → ⊥) fs
+  weaken : (f g : List A) (fs : List (List A)) → (Before ranks f g → ⊥) → AllByRecursion (λ x. Before ranks g x → ⊥) fs → AllByRecursion (λ x. Before ranks f x → ⊥) fs
   weaken f g [] h k = tt
   weaken f g (x ∷ fs) h k = (λ l. h (lt_le o f x g l k.0), weaken f g fs h k.1)
 
-  all_low : (f : List A) (fs : List (List A)) → Falling ranks (f ∷ fs) → Each (λ x. Before ranks f x → ⊥) fs
+  all_low : (f : List A) (fs : List (List A)) → Falling ranks (f ∷ fs) → AllByRecursion (λ x. Before ranks f x → ⊥) fs
   all_low f [] h = tt
   all_low f (g ∷ fs) h = (h.0, weaken f g fs h.0 (all_low g fs h.1))
 
   -- what begins a sequence of words that are not after f ends in a word that is not after f
-  low_end : (f : List A) (fs : List (List A)) (t r : List A) → Each (λ x. Before ranks f x → ⊥) fs → 0 < length t → joined fs ≡ t ++ r → LowEnd ranks f t
+  low_end : (f : List A) (fs : List (List A)) (t r : List A) → AllByRecursion (λ x. Before ranks f x → ⊥) fs → 0 < length t → joined fs ≡ t ++ r → LowEnd ranks f t
   low_end f [] t r h ht e = absurd (no_word t r e (omega arith))
   low_end f (g ∷ fs) t r h ht e = go (cuts g (joined fs) t r e) (λ s. low_end f fs s r h.1)
     where
@@ -83,7 +84,7 @@ module _ {A : Type 0} {ranks : A → A → Ordering} (o : TotalOrder ranks) wher
       let n : 0 < length (f ++ k.0) = rw length-append (omega (arith, F.some)) in
       k.4 (trans o f (f ++ x ∷ t) k.1 (prefix o f x t) (suffix o (f ++ x ∷ t) G (f ++ k.0) k.1 n k.3 (ap (λ z. f ++ z) k.2 ∙ sym (append_assoc f k.0 k.1))))
 
-  same : (fs gs : List (List A)) → Each (Lyndon ranks) fs → Each (Lyndon ranks) gs → Falling ranks fs → Falling ranks gs → joined fs ≡ joined gs → fs ≡ gs
+  same : (fs gs : List (List A)) → AllByRecursion (Lyndon ranks) fs → AllByRecursion (Lyndon ranks) gs → Falling ranks fs → Falling ranks gs → joined fs ≡ joined gs → fs ≡ gs
   same [] [] F G h k e = refl
   same [] (g ∷ gs) F G h k e = absurd (no_word g (joined gs) e (omega (arith, G.0.some)))
   same (f ∷ fs) [] F G h k e = absurd (no_word f (joined fs) (sym e) (omega (arith, F.0.some)))
@@ -146,7 +147,7 @@ module _ {A : Type 0} {ranks : A → A → Ordering} (o : TotalOrder ranks) wher
   last_low f [] g h l = h.0 l
   last_low f (e ∷ fs) g h l = h.0 (lt_le o f g e l (last_low e fs g h.1))
 
-  pub last_least : (fs : List (List A)) (f : List A) → Each (Lyndon ranks) (fs ++ f ∷ []) → Falling ranks (fs ++ f ∷ []) → (p s : List A) → 0 < length s → joined (fs ++ f ∷ []) ≡ p ++ s → Before ranks s f → ⊥
+  pub last_least : (fs : List (List A)) (f : List A) → AllByRecursion (Lyndon ranks) (fs ++ f ∷ []) → Falling ranks (fs ++ f ∷ []) → (p s : List A) → 0 < length s → joined (fs ++ f ∷ []) ≡ p ++ s → Before ranks s f → ⊥
   last_least [] f F h p s hs e l = go (cuts f [] p s e)
     where
       go : Cut f [] p s → ⊥

@@ -5,7 +5,8 @@ use lib.Seq.{drop-append_seam, drop-append-le}
 use Rattle.std.specs.Ordering.{is_lt}
 use Rattle.std.proofs.lemmas.Bool.{and_from, and_parts, cases_Bool, cases_lt}
 use Rattle.letter_order.specs.Orders.{TotalOrder}
-use Rattle.lyndon.specs.Words.{dictionary, Before, Lyndon, Each, Factors, joined}
+use Rattle.std.specs.List.{AllByRecursion}
+use Rattle.lyndon.specs.Words.{dictionary, Before, Lyndon, Factors, joined}
 use Rattle.lyndon.specs.Factoring.{factors, leads, is_lyndon, ahead}
 use Rattle.lyndon.specs.Theorems.{Tested}
 use Rattle.lyndon.proofs.Orders.{is_before}
@@ -105,7 +106,7 @@ module _ {A : Type 0} {ranks : A → A → Ordering} (o : TotalOrder ranks) wher
       let F : Factors ranks w (fs ++ f ∷ []) = subst (Factors ranks w) e (factored o w) in
       (sym F.whole ∙ joined-push fs f, last_some fs F.lyndon, λ q t d ht l. last_least o fs f F.lyndon F.falls q t ht (F.whole ∙ d) l)
     where
-      last_some : (gs : List (List A)) → Each (Lyndon ranks) (gs ++ f ∷ []) → 0 < length f
+      last_some : (gs : List (List A)) → AllByRecursion (Lyndon ranks) (gs ++ f ∷ []) → 0 < length f
       last_some [] h = h.0.some
       last_some (g ∷ gs) h = last_some gs h.1
 

@@ -1,11 +1,12 @@
 -- Words of letter numbers, and the numbers that they spell.
 use Rattle.std.specs.Prelude.{◌≡◌, ℕ, zero, suc, ◌+◌, ◌*◌, ◌/◌, ◌%◌, ◌^◌, ◌<◌, ◌⊎◌, List, [], ◌∷◌, length}
+use Rattle.std.specs.List.{AllByRecursion}
 use Rattle.letter_order.specs.Orders.{by_value}
-use Rattle.lyndon.specs.Words.{Before, Each}
+use Rattle.lyndon.specs.Words.{Before}
 
 -- each letter is below k
 abbrev pub Over : ℕ → List ℕ → Type 0
-Over k w = Each (λ x. x < k) w
+Over k w = AllByRecursion (λ x. x < k) w
 
 -- the code of a word: the number that it spells in base k, first letter highest
 abbrev pub code : ℕ → List ℕ → ℕ

@@ -3,6 +3,7 @@ use Rattle.std.specs.Prelude.{◌≡◌, ℕ, ◌<◌, ◌≤◌, List, [], ◌�
 use Rattle.std.specs.declared.cmp.Ordering.TheVariants.{Less, Equal, Greater}
 use Rattle.std.specs.declared.cmp.Ordering.{Ordering}
 use Rattle.std.specs.Ordering.{ordering_then}
+use Rattle.std.specs.List.{AllByRecursion}
 
 -- dictionary order: a proper prefix comes first; otherwise the first differing letter decides
 abbrev pub dictionary : {A : Type 0} → (A → A → Ordering) → List A → List A → Ordering
@@ -19,10 +20,6 @@ pub record Lyndon {A : Type 0} (ranks : A → A → Ordering) (w : List A) : Typ
   pub some : 0 < length w
   pub least : (i : ℕ) → 0 < i → i < length w → Before ranks w (drop i w)
 
-abbrev pub Each : {A : Type 0} → (A → Type 0) → List A → Type 0
-Each P [] = Unit {0}
-Each P (x ∷ xs) = P x × Each P xs
-
 abbrev pub joined : {A : Type 0} → List (List A) → List A
 joined [] = []
 joined (f ∷ fs) = f ++ joined fs
@@ -36,7 +33,7 @@ Falling ranks (f ∷ g ∷ fs) = (Before ranks f g → ⊥) × Falling ranks (g 
 -- fs are the factors of w: Lyndon words whose sequence is w, none followed by a greater one
 pub record Factors {A : Type 0} (ranks : A → A → Ordering) (w : List A) (fs : List (List A)) : Type 0 where
   pub whole : joined fs ≡ w
-  pub lyndon : Each (Lyndon ranks) fs
+  pub lyndon : AllByRecursion (Lyndon ranks) fs
   pub falls : Falling ranks fs
 
 -- w is cut before its longest proper suffix that is Lyndon

@@ -1,7 +1,7 @@
 -- What each case says.
 use Rattle.std.specs.Prelude.{◌≡◌, true, false, List, map, length, take, drop, slice_index_or}
+use Rattle.std.specs.List.{AllByRecursion}
 use Rattle.letter_order.specs.Orders.{by_value}
-use Rattle.lyndon.specs.Words.{Each}
 use Rattle.lyndon.specs.Codes.{code}
 use Rattle.lyndon.specs.Entries.{listing, no_entry}
 use Rattle.lyndon.specs.Factoring.{factors, is_lyndon, split_place}
@@ -21,4 +21,4 @@ Holds (Entry k n i w left right) =
 Holds (Text w text) = text_of w.now ≡ text.now
 
 abbrev pub AllHold : List Case → Type 0
-AllHold cases = Each Holds cases
+AllHold cases = AllByRecursion Holds cases
