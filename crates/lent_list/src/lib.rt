@@ -2,19 +2,16 @@
 
 #![tactic(auto)]
 
-ghost use Rattle.std.specs.Prelude.{◌≡◌, ◌<◌, ◌≤◌, [], ◌∷◌, ◌++◌, length, MatchBool, MatchResult, slice_set};
+ghost use Rattle.std.specs.Prelude.{◌≡◌, ◌+◌, ◌<◌, ◌≤◌, [], ◌∷◌, ◌++◌, length, MatchResult, slice_set};
 ghost use Rattle.std.specs.List.{slice_get};
 ghost use Rattle.lent_list.specs.Lent.{places, items, over};
-
-mod read;
-
-use read::{element, front};
 
 /// The memory is too short for what is to be put into it.
 #[derive(Clone, Copy, Debug)]
 pub struct Full;
 
 /// A list whose elements fill the front of a lent slice.
+// A slice with a count beside it, and no `Vec`: the memory is lent, since the library has no heap.
 #[derive(Drop)]
 pub struct LentList<'a, T> {
     memory: &'a mut [T],
@@ -37,7 +34,7 @@ impl<'a, T: Copy> LentList<'a, T> {
         ensures within { length result.now ≤ length (places self.now) }
     {
         let memory = &*self.memory;
-        front(memory, self.count)
+        memory.get(..self.count).unwrap_or(memory)
     }
 
     /// How many elements there are: never more than the memory has places.
@@ -59,7 +56,7 @@ impl<'a, T: Copy> LentList<'a, T> {
     pub fn get(&self, place: usize) -> Option<T>
         ensures { result ≡ slice_get (items self.now) place }
     {
-        element(self.items(), place)
+        self.items().get(place).copied()
     }
 
     /// One element more, behind the others.
@@ -72,10 +69,31 @@ impl<'a, T: Copy> LentList<'a, T> {
             × (self.new ≡ self.old)) }
         ensures lender { self.new.memory.ghost_name ≡ self.old.memory.ghost_name }
     {
-        if self.is_full() {
+        if self.count() == self.size() {
             return Err(Full);
         }
-        self.put(x);
+        self.memory[self.count] = x;
+        self.count += 1;
+        Ok(())
+    }
+
+    /// More elements, behind the others.
+    pub fn extend_from_slice(&mut self, elements: &[T]) -> Result<(), Full>
+        ensures done { MatchResult result
+            (λ _. (length (items self.old) + length elements.now ≤ length (places self.old))
+            × (items self.new ≡ items self.old ++ elements.now)
+            × (places self.new ≡ over (items self.old ++ elements.now) (places self.old)))
+            (λ _. (length (places self.old) < length (items self.old) + length elements.now)
+            × (self.new ≡ self.old)) }
+        ensures lender { self.new.memory.ghost_name ≡ self.old.memory.ghost_name }
+    {
+        let start = self.count();
+        if elements.len() > self.size() - start {
+            return Err(Full);
+        }
+        let end = start + elements.len();
+        self.memory[start..end].copy_from_slice(elements);
+        self.count = end;
         Ok(())
     }
 
@@ -92,8 +110,8 @@ impl<'a, T: Copy> LentList<'a, T> {
         if elements.len() > self.size() {
             return Err(Full);
         }
-        self.refill(elements);
-        Ok(())
+        self.clear();
+        self.extend_from_slice(elements)
     }
 
     /// No elements. The memory keeps what it holds.
@@ -112,38 +130,5 @@ impl<'a, T: Copy> LentList<'a, T> {
     {
         let LentList { memory, count: _ } = self;
         memory
-    }
-
-    // whether each place holds an element
-    fn is_full(&self) -> bool
-        ensures { MatchBool result
-            (length (items self.now) ≡ length (places self.now))
-            ((length (items self.now) < length (places self.now)) × (self.now.count < length (places self.now))) }
-    {
-        self.count >= self.size()
-    }
-
-    // one element more, where there is room
-    fn put(&mut self, x: T)
-        requires { self.old.count < length (places self.old) }
-        ensures items { items self.new ≡ items self.old ++ x ∷ [] }
-        ensures places { places self.new ≡ slice_set (places self.old) (length (items self.old)) x }
-        ensures lender { self.new.memory.ghost_name ≡ self.old.memory.ghost_name }
-    {
-        self.memory[self.count] = x;
-        self.count += 1;
-    }
-
-    // other elements, where there is room for them
-    fn refill(&mut self, elements: &[T])
-        requires { length elements.now ≤ length (places self.old) }
-        ensures items { items self.new ≡ elements.now }
-        ensures places { places self.new ≡ over elements.now (places self.old) }
-        ensures lender { self.new.memory.ghost_name ≡ self.old.memory.ghost_name }
-    {
-        for (i, x) in elements.iter().enumerate() {
-            self.memory[i] = *x;
-        }
-        self.count = elements.len();
     }
 }
