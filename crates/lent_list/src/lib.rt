@@ -4,7 +4,6 @@
 
 ghost use Rattle.std.specs.Prelude.{◌≡◌, ◌+◌, ◌<◌, ◌≤◌, [], ◌∷◌, ◌++◌, length, MatchResult, slice_set};
 ghost use Rattle.std.specs.List.{slice_get};
-ghost use Rattle.lent_list.specs.Lent.{places, items, over};
 
 /// The memory is too short for what is to be put into it.
 #[derive(Clone, Copy, Debug)]
@@ -16,9 +15,12 @@ pub struct Full;
 pub struct LentList<'a, T> {
     memory: &'a mut [T],
     count: usize,
+    ghost within: { count ≤ length memory.now },
 }
 
 impl<'a, T: Copy> LentList<'a, T> {
+    ghost use Rattle.lent_list.specs.Lent.{places, items, over, SameMemory};
+
     /// An empty list. A place of the memory keeps what it holds until it is used.
     pub fn new(memory: &'a mut [T]) -> Self
         ensures items { items result ≡ [] }
@@ -33,8 +35,7 @@ impl<'a, T: Copy> LentList<'a, T> {
         ensures value { result.now ≡ items self.now }
         ensures within { length result.now ≤ length (places self.now) }
     {
-        let memory = &*self.memory;
-        memory.get(..self.count).unwrap_or(memory)
+        &self.memory[..self.count]
     }
 
     /// How many elements there are: never more than the memory has places.
@@ -67,7 +68,7 @@ impl<'a, T: Copy> LentList<'a, T> {
             × (places self.new ≡ slice_set (places self.old) (length (items self.old)) x))
             (λ _. (length (items self.old) ≡ length (places self.old))
             × (self.new ≡ self.old)) }
-        ensures lender { self.new.memory.ghost_name ≡ self.old.memory.ghost_name }
+        ensures lender { SameMemory self.old self.new }
     {
         if self.count() == self.size() {
             return Err(Full);
@@ -85,7 +86,7 @@ impl<'a, T: Copy> LentList<'a, T> {
             × (places self.new ≡ over (items self.old ++ elements.now) (places self.old)))
             (λ _. (length (places self.old) < length (items self.old) + length elements.now)
             × (self.new ≡ self.old)) }
-        ensures lender { self.new.memory.ghost_name ≡ self.old.memory.ghost_name }
+        ensures lender { SameMemory self.old self.new }
     {
         let start = self.count();
         if elements.len() > self.size() - start {
@@ -105,7 +106,7 @@ impl<'a, T: Copy> LentList<'a, T> {
             × (places self.new ≡ over elements.now (places self.old)))
             (λ _. (length (places self.old) < length elements.now)
             × (self.new ≡ self.old)) }
-        ensures lender { self.new.memory.ghost_name ≡ self.old.memory.ghost_name }
+        ensures lender { SameMemory self.old self.new }
     {
         if elements.len() > self.size() {
             return Err(Full);
@@ -118,7 +119,7 @@ impl<'a, T: Copy> LentList<'a, T> {
     pub fn clear(&mut self)
         ensures items { items self.new ≡ [] }
         ensures places { places self.new ≡ places self.old }
-        ensures lender { self.new.memory.ghost_name ≡ self.old.memory.ghost_name }
+        ensures lender { SameMemory self.old self.new }
     {
         self.count = 0;
     }
