@@ -1,2 +1,1 @@
-mod Reading
 pub mod Filling

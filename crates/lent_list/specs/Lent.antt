@@ -1,5 +1,5 @@
 -- What a list over lent memory shows.
-use Rattle.std.specs.Prelude.{List, ◌++◌, length, take, drop}
+use Rattle.std.specs.Prelude.{◌≡◌, List, ◌++◌, length, take, drop}
 use Rattle.lent_list.specs.declared.LentList.{LentList}
 
 -- what stands in the places of the memory
@@ -13,3 +13,7 @@ items l = take l.count l.memory.now
 -- a memory with other elements in its front, and behind them what stood there
 abbrev pub over : {T : Type 0} → List T → List T → List T
 over front old = front ++ drop (length front) old
+
+-- the list lies in the memory in which it lay
+abbrev pub SameMemory : {T : Type 0} → LentList T → LentList T → Type 0
+SameMemory old new = new.memory.ghost_name ≡ old.memory.ghost_name

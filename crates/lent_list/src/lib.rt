@@ -2,26 +2,25 @@
 
 #![tactic(auto)]
 
-ghost use Rattle.std.specs.Prelude.{◌≡◌, ◌<◌, ◌≤◌, [], ◌∷◌, ◌++◌, length, MatchBool, MatchResult, slice_set};
+ghost use Rattle.std.specs.Prelude.{◌≡◌, ◌+◌, ◌<◌, ◌≤◌, [], ◌∷◌, ◌++◌, length, MatchResult, slice_set};
 ghost use Rattle.std.specs.List.{slice_get};
-ghost use Rattle.lent_list.specs.Lent.{places, items, over};
-
-mod read;
-
-use read::{element, front};
 
 /// The memory is too short for what is to be put into it.
 #[derive(Clone, Copy, Debug)]
 pub struct Full;
 
 /// A list whose elements fill the front of a lent slice.
+// A slice with a count beside it, and no `Vec`: the memory is lent, since the library has no heap.
 #[derive(Drop)]
 pub struct LentList<'a, T> {
     memory: &'a mut [T],
     count: usize,
+    ghost within: { count ≤ length memory.now },
 }
 
 impl<'a, T: Copy> LentList<'a, T> {
+    ghost use Rattle.lent_list.specs.Lent.{places, items, over, SameMemory};
+
     /// An empty list. A place of the memory keeps what it holds until it is used.
     pub fn new(memory: &'a mut [T]) -> Self
         ensures items { items result ≡ [] }
@@ -36,8 +35,7 @@ impl<'a, T: Copy> LentList<'a, T> {
         ensures value { result.now ≡ items self.now }
         ensures within { length result.now ≤ length (places self.now) }
     {
-        let memory = &*self.memory;
-        front(memory, self.count)
+        &self.memory[..self.count]
     }
 
     /// How many elements there are: never more than the memory has places.
@@ -59,7 +57,7 @@ impl<'a, T: Copy> LentList<'a, T> {
     pub fn get(&self, place: usize) -> Option<T>
         ensures { result ≡ slice_get (items self.now) place }
     {
-        element(self.items(), place)
+        self.items().get(place).copied()
     }
 
     /// One element more, behind the others.
@@ -70,12 +68,33 @@ impl<'a, T: Copy> LentList<'a, T> {
             × (places self.new ≡ slice_set (places self.old) (length (items self.old)) x))
             (λ _. (length (items self.old) ≡ length (places self.old))
             × (self.new ≡ self.old)) }
-        ensures lender { self.new.memory.ghost_name ≡ self.old.memory.ghost_name }
+        ensures lender { SameMemory self.old self.new }
     {
-        if self.is_full() {
+        if self.count() == self.size() {
             return Err(Full);
         }
-        self.put(x);
+        self.memory[self.count] = x;
+        self.count += 1;
+        Ok(())
+    }
+
+    /// More elements, behind the others.
+    pub fn extend_from_slice(&mut self, elements: &[T]) -> Result<(), Full>
+        ensures done { MatchResult result
+            (λ _. (length (items self.old) + length elements.now ≤ length (places self.old))
+            × (items self.new ≡ items self.old ++ elements.now)
+            × (places self.new ≡ over (items self.old ++ elements.now) (places self.old)))
+            (λ _. (length (places self.old) < length (items self.old) + length elements.now)
+            × (self.new ≡ self.old)) }
+        ensures lender { SameMemory self.old self.new }
+    {
+        let start = self.count();
+        if elements.len() > self.size() - start {
+            return Err(Full);
+        }
+        let end = start + elements.len();
+        self.memory[start..end].copy_from_slice(elements);
+        self.count = end;
         Ok(())
     }
 
@@ -87,20 +106,20 @@ impl<'a, T: Copy> LentList<'a, T> {
             × (places self.new ≡ over elements.now (places self.old)))
             (λ _. (length (places self.old) < length elements.now)
             × (self.new ≡ self.old)) }
-        ensures lender { self.new.memory.ghost_name ≡ self.old.memory.ghost_name }
+        ensures lender { SameMemory self.old self.new }
     {
         if elements.len() > self.size() {
             return Err(Full);
         }
-        self.refill(elements);
-        Ok(())
+        self.clear();
+        self.extend_from_slice(elements)
     }
 
     /// No elements. The memory keeps what it holds.
     pub fn clear(&mut self)
         ensures items { items self.new ≡ [] }
         ensures places { places self.new ≡ places self.old }
-        ensures lender { self.new.memory.ghost_name ≡ self.old.memory.ghost_name }
+        ensures lender { SameMemory self.old self.new }
     {
         self.count = 0;
     }
@@ -112,38 +131,5 @@ impl<'a, T: Copy> LentList<'a, T> {
     {
         let LentList { memory, count: _ } = self;
         memory
-    }
-
-    // whether each place holds an element
-    fn is_full(&self) -> bool
-        ensures { MatchBool result
-            (length (items self.now) ≡ length (places self.now))
-            ((length (items self.now) < length (places self.now)) × (self.now.count < length (places self.now))) }
-    {
-        self.count >= self.size()
-    }
-
-    // one element more, where there is room
-    fn put(&mut self, x: T)
-        requires { self.old.count < length (places self.old) }
-        ensures items { items self.new ≡ items self.old ++ x ∷ [] }
-        ensures places { places self.new ≡ slice_set (places self.old) (length (items self.old)) x }
-        ensures lender { self.new.memory.ghost_name ≡ self.old.memory.ghost_name }
-    {
-        self.memory[self.count] = x;
-        self.count += 1;
-    }
-
-    // other elements, where there is room for them
-    fn refill(&mut self, elements: &[T])
-        requires { length elements.now ≤ length (places self.old) }
-        ensures items { items self.new ≡ elements.now }
-        ensures places { places self.new ≡ over elements.now (places self.old) }
-        ensures lender { self.new.memory.ghost_name ≡ self.old.memory.ghost_name }
-    {
-        for (i, x) in elements.iter().enumerate() {
-            self.memory[i] = *x;
-        }
-        self.count = elements.len();
     }
 }
