@@ -9,7 +9,7 @@ ghost use Rattle.word.specs.Faults.{word_fault};
 
 use crate::LONGEST;
 use crate::fault::WordFault;
-use crate::run::{Run, leading_run};
+use crate::run::{Run, Runs, leading_run};
 use lent_list::LentList;
 use letter_order::Order;
 
@@ -50,22 +50,18 @@ pub fn factor<L, O: Order<L>>(
     Ok(list_starts(order, word, starts))
 }
 
-/// A word cut behind its first factor.
+/// A word cut behind its first factor, or none for the empty word.
 fn cut_first<'a, L, O: Order<L>>(order: &O, word: &'a [L]) -> Option<(&'a [L], &'a [L])>
-    ensures parts { shown result ≡ cut_behind word.now (factors (O.ranks order.now) word.now) }
-    ensures factorizations { Factorizations (O.ranks order.now) }
+    ensures { shown result ≡ cut_behind word.now (factors (O.ranks order.now) word.now) }
 {
-    if word.is_empty() {
-        return None;
-    }
-    let run = leading_run(order, word);
+    let run = leading_run(order, word)?;
     Some(word.split_at(run.period))
 }
 
 /// Whether a list of this size holds the starts of the factors of a word.
+#[tactic(auto, using(lyndon::proofs::Factorization::few_factors))]
 fn fits<L, O: Order<L>>(order: &O, word: &[L], size: usize) -> bool
-    ensures answer { result ≡ nat_le (length (factors (O.ranks order.now) word.now)) size }
-    ensures factorizations { Factorizations (O.ranks order.now) }
+    ensures { result ≡ nat_le (length (factors (O.ranks order.now) word.now)) size }
 {
     // a word has no more factors than letters, so that only a short list asks for their number
     word.len() <= size || count_factors(order, word) <= size
@@ -75,14 +71,7 @@ fn fits<L, O: Order<L>>(order: &O, word: &[L], size: usize) -> bool
 fn count_factors<L, O: Order<L>>(order: &O, word: &[L]) -> usize
     ensures { result ≡ length (factors (O.ranks order.now) word.now) }
 {
-    let mut count = 0;
-    let mut from = 0;
-    while from < word.len() {
-        let run = leading_run(order, &word[from..]);
-        count += run.count;
-        from += run.count * run.period;
-    }
-    count
+    Runs::of(order, word).map(|(_, run)| run.count).sum()
 }
 
 /// Puts the starts of equal factors, the first of which begins at `from`, behind the others.
@@ -109,11 +98,8 @@ fn list_starts<L, O: Order<L>>(order: &O, word: &[L], starts: &mut LentList<u16>
     ensures lender { starts.new.memory.ghost_name ≡ starts.old.memory.ghost_name }
 {
     starts.clear();
-    let mut from = 0;
-    while from < word.len() {
-        let run = leading_run(order, &word[from..]);
+    for (from, run) in Runs::of(order, word) {
         push_starts(starts, from, run);
-        from += run.count * run.period;
     }
     starts.count()
 }
