@@ -7,8 +7,7 @@ ghost use Rattle.lyndon.specs.Theorems.{Factorizations};
 ghost use Rattle.word.specs.Calls.{shown, cut_behind, first_outcome, factor_outcome, starts_of, paced};
 ghost use Rattle.word.specs.Faults.{word_fault};
 
-use crate::LONGEST;
-use crate::fault::WordFault;
+use crate::fault::{WordFault, check_longest};
 use crate::run::{Run, Runs, leading_run};
 use lent_list::LentList;
 use letter_order::Order;
@@ -21,9 +20,7 @@ pub fn first<'a, L, O: Order<L>>(
     ensures answer { told shown word_fault result ≡ first_outcome (O.ranks order.now) word.now }
     ensures factorizations { Factorizations (O.ranks order.now) }
 {
-    if word.len() > LONGEST {
-        return Err(WordFault::LongWord);
-    }
+    check_longest(word.len())?;
     Ok(cut_first(order, word))
 }
 
@@ -41,9 +38,7 @@ pub fn factor<L, O: Order<L>>(
     ensures lender { starts.new.memory.ghost_name ≡ starts.old.memory.ghost_name }
     ensures factorizations { Factorizations (O.ranks order.now) }
 {
-    if word.len() > LONGEST {
-        return Err(WordFault::LongWord);
-    }
+    check_longest(word.len())?;
     if !fits(order, word, starts.size()) {
         return Err(WordFault::ShortMemory);
     }

@@ -1,9 +1,13 @@
 //! Why a call on words is refused.
-ghost use Rattle.std.specs.Prelude.{◌≡◌};
+ghost use Rattle.std.specs.Prelude.{◌≡◌, ◌<◌, ◌≤◌, MatchResult};
 ghost use Rattle.faults.specs.Outcome.{told};
 ghost use Rattle.word.specs.Faults.{word_fault, room_checked};
+ghost use Rattle.word.specs.declared.fault.WordFault.TheVariants.{LongWord};
 
 use faults::{Fault, Layer};
+
+/// The most letters that a word may have.
+const LONGEST: usize = 65_535;
 
 #[derive(Clone, Copy, PartialEq, Eq, Debug)]
 pub enum WordFault {
@@ -45,6 +49,18 @@ pub fn check_room(size: usize, elements: usize) -> Result<(), WordFault>
 {
     if size < elements {
         return Err(WordFault::ShortMemory);
+    }
+    Ok(())
+}
+
+/// Refuses a word that has more letters than are allowed.
+pub(crate) fn check_longest(letters: usize) -> Result<(), WordFault>
+    ensures { MatchResult result
+        (λ _. letters ≤ 65535)
+        (λ refused. (65535 < letters) × (refused ≡ LongWord)) }
+{
+    if letters > LONGEST {
+        return Err(WordFault::LongWord);
     }
     Ok(())
 }

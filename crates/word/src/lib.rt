@@ -12,6 +12,3 @@ pub use factoring::{factor, first};
 pub use fault::{WordFault, check_room};
 pub use letters::{check_length, check_letters};
 pub use splitting::split;
-
-/// The most letters that a word may have.
-const LONGEST: usize = 65_535;

@@ -6,8 +6,7 @@ ghost use Rattle.lyndon.specs.Theorems.{Splits, Tested};
 ghost use Rattle.word.specs.Calls.{shown, split_parts, split_outcome};
 ghost use Rattle.word.specs.Faults.{word_fault};
 
-use crate::LONGEST;
-use crate::fault::WordFault;
+use crate::fault::{WordFault, check_longest};
 use crate::run::{Runs, leading_run};
 use letter_order::Order;
 
@@ -20,9 +19,7 @@ pub fn split<'a, L, O: Order<L>>(
     ensures lyndon { Tested (O.ranks order.now) }
     ensures splits { Splits (O.ranks order.now) }
 {
-    if word.len() > LONGEST {
-        return Err(WordFault::LongWord);
-    }
+    check_longest(word.len())?;
     if !is_lyndon(order, word) {
         return Err(WordFault::NotLyndon);
     }

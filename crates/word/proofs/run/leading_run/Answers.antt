@@ -1,4 +1,5 @@
-use Rattle.std.proofs.Common.{◌≡◌, ◌<◌, length, sym, arith}
+use Rattle.std.proofs.Common.{◌≡◌, ◌<◌, true, false, length, sym, arith}
+use Rattle.std.specs.Ordering.{is_lt}
 use Rattle.std.proofs.lemmas.Bool.Decides.{nat_tests}
 use Rattle.lyndon.proofs.Orders.{is_before, neither_before}
 use Rattle.lyndon.proofs.Runs.{reading_start, reading_same, reading_greater, stops_less, stops_end, reading_run}
@@ -16,16 +17,31 @@ returns-then-before g c =
     let w = c.args.word.now in
     let l = c.loop-read in
     let R = l.invariant.2 in
-    rw (c.within.ensures.period, c.within.ensures.count) (reading_run o w l.read l.period R (omega arith) (stops_less o w l.read l.period R (omega arith) _ _ c.loop-read-test.true c.index-word-read.is c.index-word-read-in-loop-read.is (is_before _ (sym c.if-before.ensures))))
+    let x = c.index-word-read.result in
+    let y = c.index-word-read-in-loop-read.result in
+    let less : is_lt (g.O.Order.ranks c.args.order.now y x) ≡ true = sym c.if-before.ensures in
+    rw (c.within.ensures.period, c.within.ensures.count) (reading_run o w l.read l.period R (omega arith) (stops_less o w l.read l.period R (omega arith) x y c.loop-read-test.true c.index-word-read.is c.index-word-read-in-loop-read.is (is_before _ less)))
 
 pub loop-read-preserved : goal.loop-read-preserved
 loop-read-preserved g c =
     let o = g.met.O.Order.total c.args.order.now in
     let w = c.args.word.now in
     let l = c.loop-read in
+    let R = l.invariant.2 in
+    let x = c.index-word-read.result in
+    let y = c.index-word-read-in-loop-read.result in
+    let ranks = g.O.Order.ranks c.args.order.now in
+    let more = c.loop-read-test.true in
+    let hx = c.index-word-read.is in
+    let hy = c.index-word-read-in-loop-read.is in
+    let not_less : is_lt (ranks y x) ≡ false = sym c.if-before.ensures in
     elim c.if-before-2.branch [
-      | then-before-2 a ↦ rw a.period-is (omega arith, omega arith, reading_greater o w l.read l.period l.invariant.2 (omega arith) _ _ c.loop-read-test.true c.index-word-read.is c.index-word-read-in-loop-read.is (is_before _ (sym a.if-before-2.ensures)))
-      | else-before-2 a ↦ rw a.period-is (omega arith, omega arith, reading_same o w l.read l.period l.invariant.2 (omega arith) _ _ c.loop-read-test.true c.index-word-read.is c.index-word-read-in-loop-read.is (neither_before o _ _ (sym a.if-before-2.ensures) (sym c.if-before.ensures)))
+      | then-before-2 a ↦
+          let greater : is_lt (ranks x y) ≡ true = sym a.if-before-2.ensures in
+          rw a.period-is (omega arith, omega arith, reading_greater o w l.read l.period R (omega arith) x y more hx hy (is_before _ greater))
+      | else-before-2 a ↦
+          let not_greater : is_lt (ranks x y) ≡ false = sym a.if-before-2.ensures in
+          rw a.period-is (omega arith, omega arith, reading_same o w l.read l.period R (omega arith) x y more hx hy (neither_before o x y not_greater not_less))
     ]
 
 pub returns : goal.returns
