@@ -1,5 +1,5 @@
 -- The first letter that is not below k.
-use Rattle.std.proofs.Common.{◌≡◌, ℕ, suc, cond, ltb, not, List, [], ◌∷◌, refl, ap, ◌∙◌, arith}
+use Rattle.std.proofs.Common.{◌≡◌, ℕ, List, [], ◌∷◌, refl, arith}
 use Rattle.std.proofs.lemmas.Bool.Decides.{nat_tests}
 use Rattle.std.specs.List.{position_or_len}
 use Rattle.std.specs.Prelude.{nat_le}

@@ -1,9 +1,9 @@
 -- What the leading run tells of the last factor, and of Lyndon words.
-use Rattle.std.proofs.Common.{◌≡◌, ℕ, zero, suc, Bool, ◌+◌, ◌-◌, ◌*◌, ◌<◌, ◌≤◌, false, eqb, List, [], ◌∷◌, ◌++◌, length, take, drop, replicate, Option, Some, None, MatchOption, Ordering, sym, refl, ap, ◌∙◌, subst, inl, inr, append_assoc, append-nil, mul-le-mul_right, suc-mul, zero-mul, add-one, zero-add, arith, length-append, length-drop, eqb-true}
+use Rattle.std.proofs.Common.{◌≡◌, ℕ, zero, suc, Bool, ◌+◌, ◌-◌, ◌*◌, ◌<◌, false, eqb, List, [], ◌∷◌, ◌++◌, length, take, drop, replicate, Option, Some, None, MatchOption, Ordering, sym, refl, ap, ◌∙◌, subst, inl, inr, append_assoc, append-nil, mul-le-mul_right, suc-mul, zero-mul, add-one, zero-add, arith, length-append, length-drop, eqb-true}
 use Rattle.std.specs.Iterator.{Yields, Drains}
 use Rattle.std.specs.List.{last_or}
 use borrow.Author.Tests.{eqb-false}
-use Rattle.std.proofs.lemmas.List.{drop-drop, length-take-le, nil_from_length, replicate_more, take_all, take_rest}
+use Rattle.std.proofs.lemmas.List.{length-take-le, replicate_more, take_all}
 use Rattle.std.proofs.lemmas.Bool.{cases_Bool}
 use Rattle.letter_order.specs.Orders.{TotalOrder}
 use Rattle.lyndon.specs.Words.{Lyndon, joined}
@@ -123,9 +123,9 @@ module _ {L O : Type 0} (ranks : O → L → L → Ordering) where
         let left : length (letters_left ranks j) ≡ length (letters_left ranks s) - x.1.count * x.1.period = ap length p.rest ∙ length-drop (x.1.count * x.1.period) (letters_left ranks s) in
         let more : x.1.count * x.1.period < length (letters_left ranks s) = omega (arith, q.few, q.leading.some, q.leading.within) in
         let same : j.from + ahead (ranks j.order.now) (letters_left ranks j) ≡ s.from + ahead (ranks s.order.now) (letters_left ranks s) =
-            ap (λ order. j.from + ahead (ranks order) (letters_left ranks j)) step.2
-            ∙ ap (λ v. j.from + ahead (ranks s.order.now) v) p.rest
-            ∙ omega (arith, p.moved, last_behind_run (o s.order.now) (letters_left ranks s) x.1.period x.1.count p.leading more) in
+        ap (λ order. j.from + ahead (ranks order) (letters_left ranks j)) step.2
+        ∙ ap (λ v. j.from + ahead (ranks s.order.now) v) p.rest
+        ∙ omega (arith, p.moved, last_behind_run (o s.order.now) (letters_left ranks s) x.1.period x.1.count p.leading more) in
         weaker N (last_or (Some y) ys) (λ z l. record { some = l.some; letters = l.letters; end = l.end ∙ ap length step.3; start = l.start ∙ same }) (last_from N y ys j k t u p.within next steps end)
 
     last_of : (s : Runs L O) (xs : List (ℕ × Run)) → Within ranks s → Drains (gives_run ranks) s xs → MatchOption (last_or None xs) (letters_left ranks s ≡ []) (Last s)

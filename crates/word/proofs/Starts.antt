@@ -1,5 +1,5 @@
 -- The starts of factors that stand one behind the other.
-use Rattle.std.proofs.Common.{◌≡◌, ℕ, zero, suc, ◌+◌, ◌*◌, ◌≤◌, List, [], ◌∷◌, ◌++◌, length, take, drop, replicate, None, Ordering, sym, refl, ap, ◌∙◌, append_assoc, append-nil, add-zero, mul-le-mul_right, suc-mul, zero-mul, add-one, arith, length-append, length-drop}
+use Rattle.std.proofs.Common.{◌≡◌, ℕ, zero, suc, ◌+◌, ◌*◌, List, [], ◌∷◌, ◌++◌, length, take, replicate, None, Ordering, sym, refl, ap, ◌∙◌, append_assoc, append-nil, add-zero, mul-le-mul_right, suc-mul, zero-mul, add-one, arith, length-append}
 use Rattle.std.proofs.lemmas.List.{length-take-le}
 use Rattle.lyndon.specs.Factoring.{factors}
 use Rattle.word.specs.Calls.{paced, starts_from}

@@ -10,4 +10,4 @@ abbrev pub gives_run : {L O : Type 0} → (O → L → L → Ordering) → Runs 
 gives_run ranks s r t =
     MatchOption r (length s.word.now ≤ s.from)
     (λ found. (found.0 ≡ s.from) × LeadingRun (ranks s.order.now) (drop s.from s.word.now) found.1.period found.1.count
-        × (t.order.now ≡ s.order.now) × (t.word.now ≡ s.word.now) × (t.from ≡ s.from + found.1.count * found.1.period))
+    × (t.order.now ≡ s.order.now) × (t.word.now ≡ s.word.now) × (t.from ≡ s.from + found.1.count * found.1.period))

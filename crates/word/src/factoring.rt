@@ -7,6 +7,7 @@ ghost use Rattle.lyndon.specs.Theorems.{Factorizations};
 ghost use Rattle.word.specs.Calls.{shown, cut_behind, first_outcome, factor_outcome, starts_of, paced};
 ghost use Rattle.word.specs.Faults.{word_fault};
 
+use crate::Parts;
 use crate::fault::{WordFault, check_longest};
 use crate::run::{Run, Runs, leading_run};
 use lent_list::LentList;
@@ -16,7 +17,7 @@ use letter_order::Order;
 pub fn first<'a, L, O: Order<L>>(
     order: &O,
     word: &'a [L],
-) -> Result<Option<(&'a [L], &'a [L])>, WordFault>
+) -> Result<Option<Parts<'a, L>>, WordFault>
     ensures answer { told shown word_fault result ≡ first_outcome (O.ranks order.now) word.now }
     ensures factorizations { Factorizations (O.ranks order.now) }
 {
@@ -46,7 +47,7 @@ pub fn factor<L, O: Order<L>>(
 }
 
 /// A word cut behind its first factor, or none for the empty word.
-fn cut_first<'a, L, O: Order<L>>(order: &O, word: &'a [L]) -> Option<(&'a [L], &'a [L])>
+fn cut_first<'a, L, O: Order<L>>(order: &O, word: &'a [L]) -> Option<Parts<'a, L>>
     ensures { shown result ≡ cut_behind word.now (factors (O.ranks order.now) word.now) }
 {
     let run = leading_run(order, word)?;
@@ -77,6 +78,7 @@ fn push_starts(starts: &mut LentList<u16>, from: usize, run: Run)
     ensures places { places starts.new ≡ over (items starts.new) (places starts.old) }
     ensures lender { starts.new.memory.ghost_name ≡ starts.old.memory.ghost_name }
 {
+    // by a number and not by `step_by`, which would ask that a period is not 0, and says no more
     for i in 0..run.count {
         // there is room
         let _ = starts.push((from + i * run.period) as u16);

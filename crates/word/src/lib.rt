@@ -12,3 +12,6 @@ pub use factoring::{factor, first};
 pub use fault::{WordFault, check_room};
 pub use letters::{check_length, check_letters};
 pub use splitting::split;
+
+/// Two parts of a word, one behind the other.
+type Parts<'a, L> = (&'a [L], &'a [L]);

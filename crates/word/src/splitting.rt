@@ -6,6 +6,7 @@ ghost use Rattle.lyndon.specs.Theorems.{Splits, Tested};
 ghost use Rattle.word.specs.Calls.{shown, split_parts, split_outcome};
 ghost use Rattle.word.specs.Faults.{word_fault};
 
+use crate::Parts;
 use crate::fault::{WordFault, check_longest};
 use crate::run::{Runs, leading_run};
 use letter_order::Order;
@@ -14,7 +15,7 @@ use letter_order::Order;
 pub fn split<'a, L, O: Order<L>>(
     order: &O,
     word: &'a [L],
-) -> Result<Option<(&'a [L], &'a [L])>, WordFault>
+) -> Result<Option<Parts<'a, L>>, WordFault>
     ensures answer { told shown word_fault result ≡ split_outcome (O.ranks order.now) word.now }
     ensures lyndon { Tested (O.ranks order.now) }
     ensures splits { Splits (O.ranks order.now) }
@@ -34,7 +35,7 @@ fn is_lyndon<L, O: Order<L>>(order: &O, word: &[L]) -> bool
 }
 
 /// A Lyndon word, cut before its longest proper suffix that is Lyndon, or none for a single letter.
-fn cut_parts<'a, L, O: Order<L>>(order: &O, word: &'a [L]) -> Option<(&'a [L], &'a [L])>
+fn cut_parts<'a, L, O: Order<L>>(order: &O, word: &'a [L]) -> Option<Parts<'a, L>>
     ensures { shown result ≡ split_parts (O.ranks order.now) word.now }
 {
     let (_, behind) = word.split_first()?;

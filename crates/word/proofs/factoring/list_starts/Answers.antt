@@ -1,8 +1,8 @@
-use Rattle.std.proofs.Common.{◌++◌, length, sym, ap, ◌∙◌, arith, length-append}
+use Rattle.std.proofs.Common.{◌++◌, length, ap, ◌∙◌, arith, length-append}
 use Rattle.lent_list.specs.Lent.{items, places, over}
 use Rattle.lent_list.proofs.Filling.{length_over, over-over}
 use Rattle.lyndon.specs.Factoring.{factors}
-use Rattle.word.specs.Calls.{paced, starts_of}
+use Rattle.word.specs.Calls.{paced}
 use Rattle.word.proofs.Passing.{passed}
 use Rattle.word.proofs.Starts.{length-starts, listed_all, listed_length, listed_more}
 use Rattle.word.proofs.factoring.list_starts.Goals as goal

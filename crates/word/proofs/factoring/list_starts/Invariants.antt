@@ -1,4 +1,4 @@
-use Rattle.std.proofs.Common.{◌≡◌, ◌≤◌, ◌++◌, length}
+use Rattle.std.proofs.Common.{◌≡◌, ◌++◌}
 use Rattle.lent_list.specs.Lent.{items, places, over}
 use Rattle.word.specs.Calls.{starts_from, starts_of}
 use Rattle.word.proofs.Passing.{Within, factors_left}

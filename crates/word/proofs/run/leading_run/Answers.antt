@@ -19,7 +19,7 @@ returns-then-before g c =
     let R = l.invariant.2 in
     let x = c.index-word-read.result in
     let y = c.index-word-read-in-loop-read.result in
-    let less : is_lt (g.O.Order.ranks c.args.order.now y x) ≡ true = sym c.if-before.ensures in
+    let less : is_lt (g.O.Order.ranks c.args.order.now y x) ≡ true = sym {b = is_lt (g.O.Order.ranks c.args.order.now y x)} c.if-before.ensures in
     rw (c.within.ensures.period, c.within.ensures.count) (reading_run o w l.read l.period R (omega arith) (stops_less o w l.read l.period R (omega arith) x y c.loop-read-test.true c.index-word-read.is c.index-word-read-in-loop-read.is (is_before _ less)))
 
 pub loop-read-preserved : goal.loop-read-preserved
@@ -34,13 +34,13 @@ loop-read-preserved g c =
     let more = c.loop-read-test.true in
     let hx = c.index-word-read.is in
     let hy = c.index-word-read-in-loop-read.is in
-    let not_less : is_lt (ranks y x) ≡ false = sym c.if-before.ensures in
+    let not_less : is_lt (ranks y x) ≡ false = sym {b = is_lt (ranks y x)} c.if-before.ensures in
     elim c.if-before-2.branch [
       | then-before-2 a ↦
-          let greater : is_lt (ranks x y) ≡ true = sym a.if-before-2.ensures in
+          let greater : is_lt (ranks x y) ≡ true = sym {b = is_lt (ranks x y)} a.if-before-2.ensures in
           rw a.period-is (omega arith, omega arith, reading_greater o w l.read l.period R (omega arith) x y more hx hy (is_before _ greater))
       | else-before-2 a ↦
-          let not_greater : is_lt (ranks x y) ≡ false = sym a.if-before-2.ensures in
+          let not_greater : is_lt (ranks x y) ≡ false = sym {b = is_lt (ranks x y)} a.if-before-2.ensures in
           rw a.period-is (omega arith, omega arith, reading_same o w l.read l.period R (omega arith) x y more hx hy (neither_before o x y not_greater not_less))
     ]
 
