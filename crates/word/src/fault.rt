@@ -28,16 +28,12 @@ impl From<WordFault> for Fault {
     ghost from_gives = { λ refused fault. fault ≡ word_fault refused };
 
     fn from(refused: WordFault) -> Fault {
-        let position = match refused {
-            WordFault::ForeignLetter(position) => position,
-            _ => 0,
-        };
-        let number = match refused {
-            WordFault::ShortMemory => 6,
-            WordFault::OtherLength => 12,
-            WordFault::ForeignLetter(_) => 13,
-            WordFault::LongWord => 17,
-            WordFault::NotLyndon => 18,
+        let (number, position) = match refused {
+            WordFault::ShortMemory => (6, 0),
+            WordFault::OtherLength => (12, 0),
+            WordFault::ForeignLetter(position) => (13, position),
+            WordFault::LongWord => (17, 0),
+            WordFault::NotLyndon => (18, 0),
         };
         Fault::found(number, Layer::Word, 0, position)
     }
