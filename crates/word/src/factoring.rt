@@ -55,7 +55,6 @@ fn cut_first<'a, L, O: Order<L>>(order: &O, word: &'a [L]) -> Option<Parts<'a, L
 }
 
 /// Whether a list of this size holds the starts of the factors of a word.
-#[tactic(auto, using(lyndon::proofs::Factorization::few_factors))]
 fn fits<L, O: Order<L>>(order: &O, word: &[L], size: usize) -> bool
     ensures { result ≡ nat_le (length (factors (O.ranks order.now) word.now)) size }
 {
