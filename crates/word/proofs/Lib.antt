@@ -1,5 +1,4 @@
-pub mod Outcomes
-pub mod Runs
+pub mod Passing
 pub mod Starts
 pub mod LastFactor
-mod Foreign
+pub mod Foreign

@@ -1,9 +1,12 @@
 -- The starts of factors that stand one behind the other.
-use Rattle.std.proofs.Common.{◌≡◌, ℕ, zero, suc, ◌+◌, ◌*◌, ◌≤◌, List, [], ◌∷◌, ◌++◌, length, take, drop, replicate, Ordering, sym, refl, ap, ◌∙◌, append_assoc, append-nil, add-zero, mul-le-mul_right, suc-mul, zero-mul, add-one, arith, length-append, length-drop}
+use Rattle.std.proofs.Common.{◌≡◌, ℕ, zero, suc, ◌+◌, ◌*◌, List, [], ◌∷◌, ◌++◌, length, take, replicate, None, Ordering, sym, refl, ap, ◌∙◌, append_assoc, append-nil, add-zero, mul-le-mul_right, suc-mul, zero-mul, add-one, arith, length-append}
 use Rattle.std.proofs.lemmas.List.{length-take-le}
 use Rattle.lyndon.specs.Factoring.{factors}
 use Rattle.word.specs.Calls.{paced, starts_from}
-use Rattle.word.proofs.Runs.{Passing, none_left}
+use Rattle.word.specs.Passing.{gives_run}
+use Rattle.word.specs.declared.run.Run.{Run}
+use Rattle.word.specs.declared.run.Runs.{Runs}
+use Rattle.word.proofs.Passing.{letters_left, factors_left, Passed, none_left}
 
 pub paced_more : (place period count : ℕ) → paced place period (count + 1) ≡ paced place period count ++ (place + count * period) ∷ []
 paced_more place period count = rw add-one (go place count)
@@ -27,25 +30,28 @@ length-starts place (f ∷ fs) = ap suc (length-starts (place + length f) fs)
 
 -- ---- the starts that are listed, and those of what is left of a word
 
-module _ {A : Type 0} (ranks : A → A → Ordering) (w : List A) (from : ℕ) (items all : List ℕ) (listed : items ++ starts_from from (factors ranks (drop from w)) ≡ all) where
-  pub listed_all : length w ≤ from → items ≡ all
-  listed_all h =
-      sym (append-nil items) ∙ ap (λ fs. items ++ starts_from from fs) (sym (none_left ranks w from h)) ∙ listed
+module _ {L O : Type 0} (ranks : O → L → L → Ordering) (s : Runs L O) (items all : List ℕ) (listed : items ++ starts_from s.from (factors_left ranks s) ≡ all) where
+  pub listed_all : (t : Runs L O) → gives_run ranks s None t → items ≡ all
+  listed_all t h =
+      sym (append-nil items) ∙ ap (λ w. items ++ starts_from s.from (factors (ranks s.order.now) w)) (sym (none_left ranks s t h)) ∙ listed
 
-  pub listed_length : length items + length (factors ranks (drop from w)) ≡ length all
+  pub listed_length : length items + length (factors_left ranks s) ≡ length all
   listed_length =
-      ap (λ n. length items + n) (sym (length-starts from (factors ranks (drop from w))))
-      ∙ sym (length-append items (starts_from from (factors ranks (drop from w))))
+      ap (λ n. length items + n) (sym (length-starts s.from (factors_left ranks s)))
+      ∙ sym (length-append items (starts_from s.from (factors_left ranks s)))
       ∙ ap length listed
 
-  pub listed_more : (period count : ℕ) (items' : List ℕ) → Passing ranks w from period count → items' ≡ items ++ paced from period count → items' ++ starts_from (from + count * period) (factors ranks (drop (from + count * period) w)) ≡ all
-  listed_more period count items' P e =
-      let f = take period (drop from w) in
-      let rest = factors ranks (drop (from + count * period) w) in
-      let n : length f ≡ period = length-take-le period (drop from w) (omega (arith, P.within, length-drop from w, mul-le-mul_right period P.some)) in
-      ap (λ l. l ++ starts_from (from + count * period) rest) e
-      ∙ append_assoc items (paced from period count) (starts_from (from + count * period) rest)
-      ∙ ap (λ p. items ++ (paced from p count ++ starts_from (from + count * p) rest)) (sym n)
-      ∙ ap (λ l. items ++ l) (sym (starts-paced from count f rest))
-      ∙ ap (λ fs. items ++ starts_from from fs) (sym P.factored)
+  pub listed_more : (run : Run) (t : Runs L O) (items' : List ℕ) → Passed ranks s run t → items' ≡ items ++ paced s.from run.period run.count → items' ++ starts_from t.from (factors_left ranks t) ≡ all
+  listed_more run t items' P e =
+      let period : ℕ = run.period in
+      let count : ℕ = run.count in
+      let f : List L = take period (letters_left ranks s) in
+      let rest : List (List L) = factors_left ranks t in
+      let n : length f ≡ period = length-take-le period (letters_left ranks s) (omega (arith, P.leading.within, mul-le-mul_right period P.leading.some)) in
+      ap (λ l. l ++ starts_from t.from rest) e
+      ∙ append_assoc items (paced s.from period count) (starts_from t.from rest)
+      ∙ ap (λ k. items ++ (paced s.from period count ++ starts_from k rest)) P.moved
+      ∙ ap (λ p. items ++ (paced s.from p count ++ starts_from (s.from + count * p) rest)) (sym n)
+      ∙ ap (λ l. items ++ l) (sym (starts-paced s.from count f rest))
+      ∙ ap (λ fs. items ++ starts_from s.from fs) (sym P.factored)
       ∙ listed

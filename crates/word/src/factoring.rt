@@ -7,9 +7,9 @@ ghost use Rattle.lyndon.specs.Theorems.{Factorizations};
 ghost use Rattle.word.specs.Calls.{shown, cut_behind, first_outcome, factor_outcome, starts_of, paced};
 ghost use Rattle.word.specs.Faults.{word_fault};
 
-use crate::LONGEST;
-use crate::fault::WordFault;
-use crate::run::{Run, leading_run};
+use crate::Parts;
+use crate::fault::{WordFault, check_longest};
+use crate::run::{Run, Runs, leading_run};
 use lent_list::LentList;
 use letter_order::Order;
 
@@ -17,13 +17,11 @@ use letter_order::Order;
 pub fn first<'a, L, O: Order<L>>(
     order: &O,
     word: &'a [L],
-) -> Result<Option<(&'a [L], &'a [L])>, WordFault>
+) -> Result<Option<Parts<'a, L>>, WordFault>
     ensures answer { told shown word_fault result ≡ first_outcome (O.ranks order.now) word.now }
     ensures factorizations { Factorizations (O.ranks order.now) }
 {
-    if word.len() > LONGEST {
-        return Err(WordFault::LongWord);
-    }
+    check_longest(word.len())?;
     Ok(cut_first(order, word))
 }
 
@@ -41,31 +39,24 @@ pub fn factor<L, O: Order<L>>(
     ensures lender { starts.new.memory.ghost_name ≡ starts.old.memory.ghost_name }
     ensures factorizations { Factorizations (O.ranks order.now) }
 {
-    if word.len() > LONGEST {
-        return Err(WordFault::LongWord);
-    }
+    check_longest(word.len())?;
     if !fits(order, word, starts.size()) {
         return Err(WordFault::ShortMemory);
     }
     Ok(list_starts(order, word, starts))
 }
 
-/// A word cut behind its first factor.
-fn cut_first<'a, L, O: Order<L>>(order: &O, word: &'a [L]) -> Option<(&'a [L], &'a [L])>
-    ensures parts { shown result ≡ cut_behind word.now (factors (O.ranks order.now) word.now) }
-    ensures factorizations { Factorizations (O.ranks order.now) }
+/// A word cut behind its first factor, or none for the empty word.
+fn cut_first<'a, L, O: Order<L>>(order: &O, word: &'a [L]) -> Option<Parts<'a, L>>
+    ensures { shown result ≡ cut_behind word.now (factors (O.ranks order.now) word.now) }
 {
-    if word.is_empty() {
-        return None;
-    }
-    let run = leading_run(order, word);
+    let run = leading_run(order, word)?;
     Some(word.split_at(run.period))
 }
 
 /// Whether a list of this size holds the starts of the factors of a word.
 fn fits<L, O: Order<L>>(order: &O, word: &[L], size: usize) -> bool
-    ensures answer { result ≡ nat_le (length (factors (O.ranks order.now) word.now)) size }
-    ensures factorizations { Factorizations (O.ranks order.now) }
+    ensures { result ≡ nat_le (length (factors (O.ranks order.now) word.now)) size }
 {
     // a word has no more factors than letters, so that only a short list asks for their number
     word.len() <= size || count_factors(order, word) <= size
@@ -75,14 +66,7 @@ fn fits<L, O: Order<L>>(order: &O, word: &[L], size: usize) -> bool
 fn count_factors<L, O: Order<L>>(order: &O, word: &[L]) -> usize
     ensures { result ≡ length (factors (O.ranks order.now) word.now) }
 {
-    let mut count = 0;
-    let mut from = 0;
-    while from < word.len() {
-        let run = leading_run(order, &word[from..]);
-        count += run.count;
-        from += run.count * run.period;
-    }
-    count
+    Runs::of(order, word).map(|(_, run)| run.count).sum()
 }
 
 /// Puts the starts of equal factors, the first of which begins at `from`, behind the others.
@@ -93,6 +77,7 @@ fn push_starts(starts: &mut LentList<u16>, from: usize, run: Run)
     ensures places { places starts.new ≡ over (items starts.new) (places starts.old) }
     ensures lender { starts.new.memory.ghost_name ≡ starts.old.memory.ghost_name }
 {
+    // by a number and not by `step_by`, which would ask that a period is not 0, and says no more
     for i in 0..run.count {
         // there is room
         let _ = starts.push((from + i * run.period) as u16);
@@ -109,11 +94,8 @@ fn list_starts<L, O: Order<L>>(order: &O, word: &[L], starts: &mut LentList<u16>
     ensures lender { starts.new.memory.ghost_name ≡ starts.old.memory.ghost_name }
 {
     starts.clear();
-    let mut from = 0;
-    while from < word.len() {
-        let run = leading_run(order, &word[from..]);
+    for (from, run) in Runs::of(order, word) {
         push_starts(starts, from, run);
-        from += run.count * run.period;
     }
     starts.count()
 }

@@ -1,9 +1,13 @@
 //! Why a call on words is refused.
-ghost use Rattle.std.specs.Prelude.{◌≡◌};
+ghost use Rattle.std.specs.Prelude.{◌≡◌, ◌<◌, ◌≤◌, MatchResult};
 ghost use Rattle.faults.specs.Outcome.{told};
 ghost use Rattle.word.specs.Faults.{word_fault, room_checked};
+ghost use Rattle.word.specs.declared.fault.WordFault.TheVariants.{LongWord};
 
 use faults::{Fault, Layer};
+
+/// The most letters that a word may have.
+const LONGEST: usize = 65_535;
 
 #[derive(Clone, Copy, PartialEq, Eq, Debug)]
 pub enum WordFault {
@@ -24,16 +28,12 @@ impl From<WordFault> for Fault {
     ghost from_gives = { λ refused fault. fault ≡ word_fault refused };
 
     fn from(refused: WordFault) -> Fault {
-        let position = match refused {
-            WordFault::ForeignLetter(position) => position,
-            _ => 0,
-        };
-        let number = match refused {
-            WordFault::ShortMemory => 6,
-            WordFault::OtherLength => 12,
-            WordFault::ForeignLetter(_) => 13,
-            WordFault::LongWord => 17,
-            WordFault::NotLyndon => 18,
+        let (number, position) = match refused {
+            WordFault::ShortMemory => (6, 0),
+            WordFault::OtherLength => (12, 0),
+            WordFault::ForeignLetter(position) => (13, position),
+            WordFault::LongWord => (17, 0),
+            WordFault::NotLyndon => (18, 0),
         };
         Fault::found(number, Layer::Word, 0, position)
     }
@@ -45,6 +45,18 @@ pub fn check_room(size: usize, elements: usize) -> Result<(), WordFault>
 {
     if size < elements {
         return Err(WordFault::ShortMemory);
+    }
+    Ok(())
+}
+
+/// Refuses a word that has more letters than are allowed.
+pub(crate) fn check_longest(letters: usize) -> Result<(), WordFault>
+    ensures { MatchResult result
+        (λ _. letters ≤ 65535)
+        (λ refused. (65535 < letters) × (refused ≡ LongWord)) }
+{
+    if letters > LONGEST {
+        return Err(WordFault::LongWord);
     }
     Ok(())
 }

@@ -1,7 +1,7 @@
 //! Words whose letters are the numbers below k.
-ghost use Rattle.std.specs.Prelude.{◌≡◌};
+ghost use Rattle.std.specs.Prelude.{◌≡◌, nat_le, position};
 ghost use Rattle.faults.specs.Outcome.{told};
-ghost use Rattle.word.specs.Faults.{word_fault, length_checked, letters_checked, foreign};
+ghost use Rattle.word.specs.Faults.{word_fault, length_checked, letters_checked};
 
 use crate::fault::WordFault;
 
@@ -16,24 +16,19 @@ pub fn check_length(n: usize, letters: usize) -> Result<(), WordFault>
 }
 
 /// Refuses a word that has a letter not below k, with the position of the first of them.
+#[tactic(auto, using(crate::proofs::Foreign::foreign_at))]
 pub fn check_letters(k: u8, word: &[u8]) -> Result<(), WordFault>
     ensures { told (λ done. done) word_fault result ≡ letters_checked k word.now }
 {
-    let position = first_foreign(k, word);
-    if position < word.len() {
-        return Err(WordFault::ForeignLetter(position));
+    match first_foreign(k, word) {
+        Some(position) => Err(WordFault::ForeignLetter(position)),
+        None => Ok(()),
     }
-    Ok(())
 }
 
-/// The position of the first letter that is not below k, or how many letters there are.
-fn first_foreign(k: u8, word: &[u8]) -> usize
-    ensures { result ≡ foreign k word.now }
+/// The position of the first letter that is not below k.
+fn first_foreign(k: u8, word: &[u8]) -> Option<usize>
+    ensures { result ≡ position (λ letter. nat_le k letter) word.now }
 {
-    for (position, letter) in word.iter().enumerate() {
-        if *letter >= k {
-            return position;
-        }
-    }
-    word.len()
+    word.iter().position(|letter| *letter >= k)
 }

@@ -13,5 +13,5 @@ pub use fault::{WordFault, check_room};
 pub use letters::{check_length, check_letters};
 pub use splitting::split;
 
-/// The most letters that a word may have.
-const LONGEST: usize = 65_535;
+/// Two parts of a word, one behind the other.
+type Parts<'a, L> = (&'a [L], &'a [L]);

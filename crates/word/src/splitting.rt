@@ -1,28 +1,26 @@
 //! The split of a Lyndon word.
-ghost use Rattle.std.specs.Prelude.{◌≡◌, ◌<◌, length};
+ghost use Rattle.std.specs.Prelude.{◌≡◌, ◌<◌, [], length, MatchOption};
 ghost use Rattle.faults.specs.Outcome.{told};
 ghost use Rattle.lyndon.specs.Factoring.{is_lyndon, ahead};
 ghost use Rattle.lyndon.specs.Theorems.{Splits, Tested};
 ghost use Rattle.word.specs.Calls.{shown, split_parts, split_outcome};
 ghost use Rattle.word.specs.Faults.{word_fault};
 
-use crate::LONGEST;
-use crate::fault::WordFault;
-use crate::run::leading_run;
+use crate::Parts;
+use crate::fault::{WordFault, check_longest};
+use crate::run::{Runs, leading_run};
 use letter_order::Order;
 
 /// The two parts of a Lyndon word, cut before its longest proper suffix that is Lyndon, or none for a single letter.
 pub fn split<'a, L, O: Order<L>>(
     order: &O,
     word: &'a [L],
-) -> Result<Option<(&'a [L], &'a [L])>, WordFault>
+) -> Result<Option<Parts<'a, L>>, WordFault>
     ensures answer { told shown word_fault result ≡ split_outcome (O.ranks order.now) word.now }
     ensures lyndon { Tested (O.ranks order.now) }
     ensures splits { Splits (O.ranks order.now) }
 {
-    if word.len() > LONGEST {
-        return Err(WordFault::LongWord);
-    }
+    check_longest(word.len())?;
     if !is_lyndon(order, word) {
         return Err(WordFault::NotLyndon);
     }
@@ -31,37 +29,26 @@ pub fn split<'a, L, O: Order<L>>(
 
 /// Whether a word is a Lyndon word: its first factor is all of it.
 fn is_lyndon<L, O: Order<L>>(order: &O, word: &[L]) -> bool
-    ensures answer { result ≡ is_lyndon (O.ranks order.now) word.now }
-    ensures lyndon { Tested (O.ranks order.now) }
-    ensures splits { Splits (O.ranks order.now) }
+    ensures { result ≡ is_lyndon (O.ranks order.now) word.now }
 {
-    !word.is_empty() && leading_run(order, word).period == word.len()
+    leading_run(order, word).is_some_and(|run| run.period == word.len())
 }
 
-/// A word of two or more letters, cut before its longest proper suffix that is Lyndon.
-fn cut_parts<'a, L, O: Order<L>>(order: &O, word: &'a [L]) -> Option<(&'a [L], &'a [L])>
+/// A Lyndon word, cut before its longest proper suffix that is Lyndon, or none for a single letter.
+fn cut_parts<'a, L, O: Order<L>>(order: &O, word: &'a [L]) -> Option<Parts<'a, L>>
     ensures { shown result ≡ split_parts (O.ranks order.now) word.now }
 {
-    if word.len() < 2 {
-        return None;
-    }
-    let place = 1 + last_factor(order, &word[1..]);
-    Some(word.split_at(place))
+    let (_, behind) = word.split_first()?;
+    let place = last_factor(order, behind)?;
+    Some(word.split_at(1 + place))
 }
 
 /// Where the last factor of a word begins: it is the longest suffix that is Lyndon.
-fn last_factor<L, O: Order<L>>(order: &O, word: &[L]) -> usize
-    requires { 0 < length word.now }
-    ensures place { result ≡ ahead (O.ranks order.now) word.now }
-    ensures within { result < length word.now }
+fn last_factor<L, O: Order<L>>(order: &O, word: &[L]) -> Option<usize>
+    ensures { MatchOption result
+        (word.now ≡ [])
+        (λ place. (place ≡ ahead (O.ranks order.now) word.now) × (place < length word.now)) }
 {
-    let mut from = 0;
-    loop {
-        let run = leading_run(order, &word[from..]);
-        let next = from + run.count * run.period;
-        if next == word.len() {
-            return next - run.period;
-        }
-        from = next;
-    }
+    let (from, run) = Runs::of(order, word).last()?;
+    Some(from + (run.count - 1) * run.period)
 }

@@ -1,18 +1,15 @@
-use Rattle.std.proofs.Common.{length, ap, arith, rules}
-use Rattle.word.proofs.Runs.{passing, none_left}
+use Rattle.std.proofs.Common.{rules, length, ap, ◌∙◌, arith}
+use Rattle.lyndon.specs.Factoring.{factors}
+use Rattle.word.proofs.Passing.{counts_summed}
 use Rattle.word.proofs.factoring.count_factors.Goals as goal
 
-pub overflow_add-count : goal.overflow_add-count
-overflow_add-count g c = let p = passing _ _ _ _ _ c.loop-from.invariant.1 c.leading_run-run.ensures in search rules
-
-pub loop-from-smaller : goal.loop-from-smaller
-loop-from-smaller g c = let p = passing _ _ _ _ _ c.loop-from.invariant.1 c.leading_run-run.ensures in omega arith
-
-pub loop-from-preserved : goal.loop-from-preserved
-loop-from-preserved g c =
-    let p = passing _ _ _ _ _ c.loop-from.invariant.1 c.leading_run-run.ensures in (omega arith, p.within, omega arith)
+pub sum-requires-clause-fits : goal.sum-requires-clause-fits
+sum-requires-clause-fits g c = λ p _ at.
+    let n = counts_summed g.O.Order.ranks _ _ c.of.result p c.of.ensures.from (c.map.ensures.runs p p.seen at) (λ x n f' call. search rules) in
+    omega (arith, n.few, ap length c.of.ensures.word)
 
 pub returns : goal.returns
 returns g c =
-    let e = ap length (none_left (g.O.Order.ranks c.args.order.now) c.args.word.now c.loop-from.from c.loop-from-test.false) in
-    omega (arith, c.loop-from.invariant.2)
+    let r = c.sum.ensures.runs tt in
+    let n = counts_summed g.O.Order.ranks _ _ c.of.result r.0 c.of.ensures.from (c.map.ensures.runs r.0 r.0.seen r.1) (λ x n f' call. search rules) in
+    r.3 ∙ n.all r.2 ∙ ap (λ order. length (factors (g.O.Order.ranks order) c.of.result.word.now)) c.of.ensures.order ∙ ap (λ w. length (factors (g.O.Order.ranks c.args.order.now) w)) c.of.ensures.word

@@ -1,7 +1,8 @@
 use Rattle.lyndon.proofs.Theorems.{factorizations}
-use Rattle.word.proofs.Outcomes.{too_long}
 use Rattle.word.proofs.factoring.first.Goals as goal
 
-pub returns-then-word-gt-LONGEST : goal.returns-then-word-gt-LONGEST
-returns-then-word-gt-LONGEST g c =
-    record { answer = too_long _ _ c.if-word-gt-LONGEST.true; factorizations = factorizations (g.met.O.Order.total c.args.order.now) }
+pub returns-in_err-check_longest-clause-factorizations : goal.returns-in_err-check_longest-clause-factorizations
+returns-in_err-check_longest-clause-factorizations g c = factorizations (g.met.O.Order.total c.args.order.now)
+
+pub returns-clause-factorizations : goal.returns-clause-factorizations
+returns-clause-factorizations g c = factorizations (g.met.O.Order.total c.args.order.now)

@@ -1,19 +1,9 @@
-use Rattle.std.proofs.Common.{◌+◌, ◌*◌, ◌<◌, [], ◌∷◌, ◌++◌, length, sym, refl, ap, ◌∙◌, append_assoc, append-nil, mul-le-mul_right, arith, length-append, rules}
+use Rattle.std.proofs.Common.{◌+◌, ◌*◌, ◌<◌, [], ◌∷◌, ◌++◌, length, sym, ap, ◌∙◌, append_assoc, arith, length-append}
 use Rattle.lent_list.specs.Lent.{items, places}
-use Rattle.lent_list.proofs.Filling.{over_front, put_more}
+use Rattle.lent_list.proofs.Filling.{put_more}
 use Rattle.word.specs.Calls.{paced}
 use Rattle.word.proofs.Starts.{length-paced, paced_more}
 use Rattle.word.proofs.factoring.push_starts.Goals as goal
-
-pub loop-i-init : goal.loop-i-init
-loop-i-init c =
-    (sym (append-nil (items c.args.starts.now)), sym (over_front c.args.starts.now.count c.args.starts.now.memory.now), refl)
-
-pub overflow_add-from : goal.overflow_add-from
-overflow_add-from c = let n = mul-le-mul_right c.args.run.period c.loop-i-test.true in search rules
-
-pub overflow_cast-from : goal.overflow_cast-from
-overflow_cast-from c = let n = mul-le-mul_right c.args.run.period c.loop-i-test.true in search rules
 
 pub loop-i-preserved : goal.loop-i-preserved
 loop-i-preserved c =

@@ -1,10 +1,7 @@
-use Rattle.std.proofs.Common.{◌-◌, ◌<◌, ◌≤◌, length}
+use Rattle.std.proofs.Common.{◌<◌, ◌≤◌}
 use Rattle.lyndon.proofs.Runs.{Reading}
 use Rattle.word.proofs.run.leading_run.Given as goal
 
 abbrev pub invariant-loop-read : goal.invariant-loop-read
 invariant-loop-read g l =
-    (0 < l.period) × (l.period ≤ l.read) × (l.read ≤ length l.word) × Reading (g.O.Order.ranks l.order) l.word l.read l.period
-
-abbrev pub decreases-loop-read : goal.decreases-loop-read
-decreases-loop-read g l = length l.word - l.read
+    (0 < l.period) × (l.period ≤ l.read) × Reading (g.O.Order.ranks l.order) l.word l.read l.period

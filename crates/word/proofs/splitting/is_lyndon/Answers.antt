@@ -1,16 +1,7 @@
-use Rattle.std.proofs.Common.{not, ap, ◌∙◌, true-eqb}
-use Rattle.lyndon.proofs.Splitting.{tested}
-use Rattle.lyndon.proofs.Theorems.{splits}
-use Rattle.word.proofs.LastFactor.{lyndon_by_run, empty_not_lyndon}
+use Rattle.std.proofs.Common.{rules}
+use Rattle.word.proofs.LastFactor.{lyndon_by_first}
 use Rattle.word.proofs.splitting.is_lyndon.Goals as goal
 
-pub returns-then-not-is_empty : goal.returns-then-not-is_empty
-returns-then-not-is_empty g c =
-    let o = g.met.O.Order.total c.args.order.now in
-    record { answer = lyndon_by_run o c.args.word.now _ _ c.leading_run.ensures; lyndon = tested o; splits = splits o }
-
-pub returns-else-not-is_empty : goal.returns-else-not-is_empty
-returns-else-not-is_empty g c =
-    let o = g.met.O.Order.total c.args.order.now in
-    let empty = empty_not_lyndon _ c.args.word.now (true-eqb _ _ c.if-not-is_empty.ensures) in
-    record { answer = ap not c.if-not-is_empty.false ∙ empty; lyndon = tested o; splits = splits o }
+pub returns : goal.returns
+returns g c =
+    lyndon_by_first (g.met.O.Order.total c.args.order.now) c.args.word.now c.leading_run.result c.is_some_and.result c.leading_run.ensures c.is_some_and.ensures (λ run h. search rules)

@@ -1,26 +1,34 @@
-use Rattle.std.proofs.Common.{◌≤◌, length, mul-le-mul_right, arith}
-use Rattle.word.proofs.LastFactor.{found_last, passed_last}
-use Rattle.word.proofs.Runs.{passing}
+use Rattle.std.proofs.Common.{rules, length, sym, ap, ◌∙◌, arith}
+use Rattle.lyndon.specs.Factoring.{ahead}
+use Rattle.word.proofs.LastFactor.{no_last, some_last, last_start}
 use Rattle.word.proofs.splitting.last_factor.Goals as goal
 
+pub returns-in_err-from : goal.returns-in_err-from
+returns-in_err-from g c =
+    let none = no_last g.O.Order.ranks g.met.O.Order.total c.of.result c.last.result c.of.ensures.from c.last.ensures.ran c.in_err-from.was in
+    rw c.from_residual.ensures (sym c.of.ensures.word ∙ none)
+
 pub overflow_sub-result : goal.overflow_sub-result
-overflow_sub-result g c = omega (arith, mul-le-mul_right c.leading_run-run.result.period c.leading_run-run.ensures.some)
-
-pub returns-then-next-word : goal.returns-then-next-word
-returns-then-next-word g c =
-    record {
-      place = found_last (g.met.O.Order.total c.args.order.now) c.args.word.now c.loop-run.from _ _ (omega arith) c.leading_run-run.ensures c.loop-run.invariant.1 c.if-next-word.true;
-      within = omega (arith, c.leading_run-run.ensures.letters, mul-le-mul_right c.leading_run-run.result.period c.leading_run-run.ensures.some);
-    }
-
-pub loop-run-smaller : goal.loop-run-smaller
-loop-run-smaller g c =
-    let h : c.loop-run.from ≤ length c.args.word.now = omega arith in
-    let p = passing _ _ _ _ _ h c.leading_run-run.ensures in
+overflow_sub-result g c =
+    let l = some_last g.O.Order.ranks g.met.O.Order.total c.of.result c.last.result _ c.of.ensures.from c.last.ensures.ran c.in_ok-from.was in
     omega arith
 
-pub loop-run-preserved : goal.loop-run-preserved
-loop-run-preserved g c =
-    let h : c.loop-run.from ≤ length c.args.word.now = omega arith in
-    let p = passing _ _ _ _ _ h c.leading_run-run.ensures in
-    (omega arith, passed_last (g.met.O.Order.total c.args.order.now) c.args.word.now c.loop-run.from _ _ h c.leading_run-run.ensures c.loop-run.invariant.1 (omega arith))
+pub overflow_mul-result : goal.overflow_mul-result
+overflow_mul-result g c =
+    let l = some_last g.O.Order.ranks g.met.O.Order.total c.of.result c.last.result _ c.of.ensures.from c.last.ensures.ran c.in_ok-from.was in
+    let e = ap length c.of.ensures.word in
+    search rules
+
+pub overflow_add-result : goal.overflow_add-result
+overflow_add-result g c =
+    let l = some_last g.O.Order.ranks g.met.O.Order.total c.of.result c.last.result _ c.of.ensures.from c.last.ensures.ran c.in_ok-from.was in
+    let e = ap length c.of.ensures.word in
+    search rules
+
+pub returns : goal.returns
+returns g c =
+    let l = some_last g.O.Order.ranks g.met.O.Order.total c.of.result c.last.result _ c.of.ensures.from c.last.ensures.ran c.in_ok-from.was in
+    let start = last_start g.O.Order.ranks g.met.O.Order.total c.of.result _ c.of.ensures.from l in (
+      start ∙ ap (λ order. ahead (g.O.Order.ranks order) c.of.result.word.now) c.of.ensures.order ∙ ap (ahead (g.O.Order.ranks c.args.order.now)) c.of.ensures.word,
+      omega (arith, ap length c.of.ensures.word),
+    )
