@@ -5,7 +5,7 @@ use Rattle.std.proofs.lemmas.List.{append-nil, drop_all, length-append}
 use Rattle.letter_order.specs.declared.moves.Move.{Move}
 use Rattle.letter_order.specs.declared.moves.Sense.{Sense}
 use Rattle.text.specs.Reading.{Stops, Halts, Leads}
-use Rattle.trace_text.specs.States.{Rest, Begun, Onward, Stepped, GivesMove, early, text_of, place_of}
+use Rattle.trace_text.specs.States.{Rest, HasRead, Onward, Stepped, GivesMove, early, text_of, place_of}
 use Rattle.trace_text.specs.Tokens.{Marked}
 use Rattle.trace_text.specs.Traces.{IsTrace}
 use Rattle.text.specs.declared.fault.TextFault.{TextFault}
@@ -83,31 +83,27 @@ module _ (old at : Reader) (h : Onward old [] at) (marks : Marks) (same : marks.
         let halts = halts_end Rest (text_of old) (place_of at) at.state end (goes_on at.state) (short_here at.state state) in
         (place_of at, ap Malformed ended.1, h.leads.halts (place_of at) halts)
 
--- a reader that has read the moves w, and reads on to the end of the next
-pub onward_more : (old at new : Reader) (w : List Move) (m : Move) → Onward old w at → GivesMove at (Some (Ok m)) new → Onward old (w ++ m ∷ []) new
-onward_more old at new w m h more =
-    record { text = more.text ∙ h.text; leads = leads_then Rest (text_of old) h.leads (simp h.text at more.leads) }
+-- a reader of the text bs, from its start on
+pub starts : (bs : List ℕ) (r : Reader) → text_of r ≡ bs → place_of r ≡ 0 → r.state ≡ Start → HasRead bs [] r
+starts bs r text place state = record { text = text; leads = rw (place, state) (leads_stay Rest bs 0 Start) }
 
--- from the start of a text
-module _ (bs : List ℕ) (old at new : Reader) (w : List Move) (begun : Begun bs old) (h : Onward old w at) where
-  leads_bs : Leads Rest bs 0 Start w (place_of at) at.state
-  leads_bs = simp (begun.text, begun.place, begun.state) at h.leads
-
-  text_bs : text_of at ≡ bs
-  text_bs = h.text ∙ begun.text
+module _ (bs : List ℕ) (w : List Move) (r new : Reader) (h : HasRead bs w r) where
+  pub reads_on : (m : Move) → GivesMove r (Some (Ok m)) new → HasRead bs (w ++ m ∷ []) new
+  reads_on m more =
+      record { text = more.text ∙ h.text; leads = leads_then Rest bs h.leads (simp h.text at more.leads) }
 
   -- no more moves than the text has
   pub front : (ms : List Move) → IsTrace bs ms → length w ≤ length ms
   front ms f =
-      let v = leads_bs.only ms f in
+      let v = h.leads.only ms f in
       rw (v.1, length-append) (omega arith)
 
-  pub whole : GivesMove at None new → IsTrace bs w
+  pub whole : GivesMove r None new → IsTrace bs w
   whole none =
-      let end : Rest at.state (drop (place_of at) bs) [] = simp text_bs at ((none []).1 refl) in
-      rw append-nil at (leads_bs.reads [] end)
+      let end : Rest r.state (drop (place_of r) bs) [] = simp h.text at ((none []).1 refl) in
+      rw append-nil at (h.leads.reads [] end)
 
-  pub halts : (f : TextFault) → GivesMove at (Some (Err f)) new → (p : ℕ) × (f ≡ Malformed p) × Stops IsTrace bs p
+  pub halts : (f : TextFault) → GivesMove r (Some (Err f)) new → (p : ℕ) × (f ≡ Malformed p) × Stops IsTrace bs p
   halts f stop =
-      let there : Halts Rest bs (place_of at) at.state stop.0 = simp text_bs at stop.2 in
-      (stop.0, stop.1, rw sub-zero at (leads_bs.halts stop.0 there).1)
+      let there : Halts Rest bs (place_of r) r.state stop.0 = simp h.text at stop.2 in
+      (stop.0, stop.1, rw sub-zero at (h.leads.halts stop.0 there).1)

@@ -37,11 +37,10 @@ text_of r = r.marks.text.now
 abbrev pub place_of : Reader → ℕ
 place_of r = r.marks.place
 
--- a reader that stands at the start of a text
-pub record Begun (bs : List ℕ) (r : Reader) : Type 0 where
+-- a reader of the text bs has read these moves
+pub record HasRead (bs : List ℕ) (w : List Move) (r : Reader) : Type 0 where
   pub text : text_of r ≡ bs
-  pub place : place_of r ≡ 0
-  pub state : r.state ≡ Start
+  pub leads : Leads Rest bs 0 Start w (place_of r) r.state
 
 -- a mark leads from its place to the reader's, with the move that it ends, or the text stops in it
 abbrev pub Stepped : ℕ → Reader → Reader → Result (Option Move) TextFault → Type 0

@@ -6,7 +6,7 @@ ghost use Rattle.text.specs.Faults.{text_fault};
 ghost use Rattle.text.specs.Digits.{AllDigits};
 ghost use Rattle.trace_text.specs.Tokens.{Marked};
 ghost use Rattle.trace_text.specs.Traces.{sign, IsTrace, TraceOutcome, OneOutcome};
-ghost use Rattle.trace_text.specs.States.{LeadingZero, AxisRead, Begun, Stepped, Counted};
+ghost use Rattle.trace_text.specs.States.{LeadingZero, AxisRead, HasRead, Stepped, Counted};
 
 use crate::token::{Mark, Marks, Token};
 use lent_list::LentList;
@@ -78,8 +78,9 @@ fn axis_of(digits: &[u8], place: usize) -> Result<u8, TextFault>
 
 impl<'a> Reader<'a> {
     /// A reader at the start of a text.
+    #[tactic(auto, using(crate::proofs::Turns::starts))]
     fn new(text: &'a [u8]) -> Self
-        ensures { Begun text.now result }
+        ensures { HasRead text.now [] result }
     {
         Reader {
             marks: Marks::new(text),
