@@ -1,11 +1,11 @@
 -- Axes in decimal.
-use Rattle.std.proofs.Common.{◌≡◌, ℕ, ◌+◌, ◌-◌, ◌*◌, ◌<◌, ◌≤◌, List, [], ◌∷◌, ◌++◌, map, length, get_or, take, Ok, Err, decimal, sym, refl, ap, ◌∙◌, inl, inr, arith, lit<}
+use Rattle.std.proofs.Common.{◌≡◌, ℕ, ◌+◌, ◌-◌, ◌*◌, ◌<◌, ◌≤◌, List, [], ◌∷◌, ◌++◌, map, length, get_or, take, Err, decimal, sym, refl, ap, ◌∙◌, inl, inr, arith, lit<}
 use Rattle.std.specs.Str.Parse.{digits_value}
 use Rattle.std.specs.Int.Digits.{number_from_digits, number_from_digits_after}
 use Rattle.std.specs.Char.{digit_value as digitValue}
 use Rattle.std.proofs.lemmas.Fmt.{decimal_digit, decimal-digits_value, digits_decimal, first_decimal, digits_value-decimal}
 use Rattle.std.proofs.lemmas.Int.Digits.{number_after_append, number_after_ge, digits_value_is, digits_value_more}
-use Rattle.std.proofs.lemmas.List.{append-nil, get_or-take, length-take-le, map-append}
+use Rattle.std.proofs.lemmas.List.{append-nil, get_or-take, length-take-le, map-append, take_all}
 use Rattle.std.proofs.lemmas.List.Elements.{All-nil, All-cons, All-head, All-tail, All-take}
 use Rattle.std.proofs.lemmas.Str.Parse.{IsNumeralModel, IsDigitsTest, numerals_by_value}
 use Rattle.std.proofs.lemmas.Bool.{cases_lt}
@@ -48,8 +48,11 @@ value_front s t =
 written_back : (ds : List ℕ) → AllDigits ds → 0 < length ds → (LeadingZero ds → ⊥) → digits_value 10 ds < 256 → decimal (digits_value 10 ds) ≡ ds
 written_back ds run some plain h = decimal-digits_value numerals ds run some (λ e. elim (cases_lt 1 (length ds)) [ inl k ↦ absurd (plain (k, e)) | inr k ↦ omega arith ]) (omega arith)
 
-pub axis_read : (ds : List ℕ) (i axis : ℕ) → AllDigits ds → 0 < length ds → (LeadingZero ds → ⊥) → axis ≡ digits_value 10 ds → axis < 256 → AxisRead ds i (Ok axis)
-axis_read ds i axis run some plain is h = (h, rw is (sym (written_back ds run some plain (omega arith))))
+-- all the digits
+pub axis_read : (ds : List ℕ) (k : ℕ) → AllDigits ds → 0 < length ds → (LeadingZero ds → ⊥) → length ds ≤ k → digits_value 10 (take k ds) < 256 → decimal (digits_value 10 (take k ds)) ≡ ds
+axis_read ds k run some plain all h =
+    let same : take k ds ≡ ds = take_all k ds all in
+    rw same (written_back ds run some plain (rw same at h))
 
 -- digits past 255 begin no axis
 too_great : (ds : List ℕ) → 255 < digits_value 10 ds → AxisFront ds → ⊥

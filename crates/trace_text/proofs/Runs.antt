@@ -42,7 +42,7 @@ digits_back (c ∷ s) t run = digits_back s t (All-tail Digit c (s ++ t) run)
 -- digits in front of a text, where another run ends at the latest with those behind it: a front of that run
 pub run_front : (whole behind digits rest : List ℕ) → whole ++ behind ≡ digits ++ rest → AllDigits digits → Begins NotDigit behind → (more : List ℕ) × (whole ≡ digits ++ more) × (rest ≡ more ++ behind)
 run_front whole behind [] rest e run stop = (whole, refl, sym e)
-run_front [] [] (c ∷ digits) rest e run stop = let z : ◌≡◌ {A = ℕ} 0 1 = cc in absurd (omega arith)
+run_front [] [] (c ∷ digits) rest e run stop = absurd (cc)
 run_front [] (b ∷ behind) (c ∷ digits) rest e run stop =
     let s : b ≡ c = cc in
     absurd (stop (rw s (All-head Digit c digits run)))

@@ -40,11 +40,11 @@ further_stops [] = tt
 further_stops (m ∷ ms) = λ d. omega arith
 
 further_first : (c : ℕ) (t : List ℕ) (ms : List Move) → c ∷ t ≡ further ms → c ≡ 32
-further_first c t [] e = absurd (let z : ◌≡◌ {A = ℕ} 0 1 = cc in omega arith)
+further_first c t [] e = absurd (cc)
 further_first c t (m ∷ ms) e = cc
 
 trace_first : (c : ℕ) (t : List ℕ) (ms : List Move) → c ∷ t ≡ trace ms → (c ≡ 43) ⊎ (c ≡ 45)
-trace_first c t [] e = absurd (let z : ◌≡◌ {A = ℕ} 0 1 = cc in omega arith)
+trace_first c t [] e = absurd (cc)
 trace_first c t (m ∷ ms) e = let is : c ≡ sign m.sense = cc in rw is (sign_told m.sense)
 
 first_digit : (c : ℕ) (t digits behind : List ℕ) → 0 < length digits → AllDigits digits → c ∷ t ≡ digits ++ behind → Digit c
@@ -53,7 +53,7 @@ first_digit c t (d ∷ digits) behind some run e = let is : c ≡ d = cc in rw i
 
 -- behind a sign: an axis, and further moves
 axis_then : (f : Sense) (bs : List ℕ) (ms : List Move) → Rest (Axis f) bs ms → (a : ℕ) × (v : List Move) × (ms ≡ along f a ∷ v) × (a < 256) × AxesFit v × (bs ≡ decimal a ++ further v)
-axis_then f bs [] r = let e = r.0 in absurd (let z : ◌≡◌ {A = ℕ} 0 1 = cc in omega arith)
+axis_then f bs [] r = let e = r.0 in absurd (cc)
 axis_then f bs (m ∷ ms) r =
     let e = r.0 in
     let s : sign f ≡ sign m.sense = cc in
@@ -71,15 +71,15 @@ goes_on Ended = ([], [], (refl, tt))
 trace_ends : (ms : List Move) → IsTrace [] ms ↔ (ms ≡ [])
 trace_ends [] = (λ r. refl, λ e. (refl, tt))
 trace_ends (m ∷ ms) = (
-  λ r. let e = r.0 in absurd (let z : ◌≡◌ {A = ℕ} 0 1 = cc in omega arith),
-  λ e. absurd (let z : ◌≡◌ {A = ℕ} 0 1 = cc in omega arith),
+  λ r. let e = r.0 in absurd (cc),
+  λ e. absurd (cc),
 )
 
 ended_ends : (ms : List Move) → Rest Ended [] ms ↔ (ms ≡ [])
 ended_ends [] = (λ r. refl, λ e. (refl, tt))
 ended_ends (m ∷ ms) = (
-  λ r. let e = r.0 in absurd (let z : ◌≡◌ {A = ℕ} 0 1 = cc in omega arith),
-  λ e. absurd (let z : ◌≡◌ {A = ℕ} 0 1 = cc in omega arith),
+  λ r. let e = r.0 in absurd (cc),
+  λ e. absurd (cc),
 )
 
 pub ends_here : (s : State) → (s ≡ Start) ⊎ (s ≡ Ended) → (ms : List Move) → Rest s [] ms ↔ (ms ≡ [])
@@ -157,7 +157,7 @@ stuck Ended Space c h off bs x r = absurd (true≢false off)
 stuck Ended Other c h off bs x r = h.2 (further_first c bs x r.0)
 
 trace_some : (c : ℕ) (t : List ℕ) (ms : List Move) → c ∷ t ≡ trace ms → 0 < length ms
-trace_some c t [] e = absurd (let z : ◌≡◌ {A = ℕ} 0 1 = cc in omega arith)
+trace_some c t [] e = absurd (cc)
 trace_some c t (m ∷ ms) e = omega arith
 
 -- a space is followed by a trace
@@ -166,7 +166,7 @@ space_on t [] r = absurd (omega (arith, r.1))
 space_on t (m ∷ ms) r = (ap (λ l. 32 ∷ l) r.0.0, r.0.1)
 
 space_back : (t : List ℕ) (ms : List Move) → Rest Ended (32 ∷ t) ms → Rest Next t ms
-space_back t [] r = let e = r.0 in absurd (let z : ◌≡◌ {A = ℕ} 0 1 = cc in omega arith)
+space_back t [] r = let e = r.0 in absurd (cc)
 space_back t (m ∷ ms) r = let e = r.0 in let f : t ≡ trace (m ∷ ms) = cc in ((f, r.1), omega arith)
 
 -- a whole run of digits is the axis

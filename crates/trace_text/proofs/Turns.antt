@@ -50,7 +50,7 @@ module _ (old at : Reader) (h : Onward old [] at) (marks : Marks) (same : marks.
 
     -- the mark ends a move or the reading, and otherwise the reader goes on
     pub gives_next : (r : Result (Option Move) TextFault) (ended : Result Move TextFault) → result_transpose r ≡ Some ended → Stepped mark.place mid new r → GivesMove old (Some ended) new
-    gives_next (Ok None) ended e step = absurd (let z : ◌≡◌ {A = ℕ} 0 1 = cc in omega arith)
+    gives_next (Ok None) ended e step = absurd (cc)
     gives_next (Ok (Some m)) ended e step =
         let is : Ok m ≡ ended = cc in
         rw (← is) (onward_next (m ∷ []) step.0)
@@ -60,8 +60,8 @@ module _ (old at : Reader) (h : Onward old [] at) (marks : Marks) (same : marks.
 
     pub stays_next : (r : Result (Option Move) TextFault) → result_transpose r ≡ None → Stepped mark.place mid new r → Onward old [] new
     stays_next (Ok None) e step = onward_next [] step
-    stays_next (Ok (Some m)) e step = absurd (let z : ◌≡◌ {A = ℕ} 0 1 = cc in omega arith)
-    stays_next (Err f) e step = absurd (let z : ◌≡◌ {A = ℕ} 0 1 = cc in omega arith)
+    stays_next (Ok (Some m)) e step = absurd (cc)
+    stays_next (Err f) e step = absurd (cc)
 
   -- the end of the text
   module _ (ended : Marked (text_of at) (place_of at) marks.place None) where

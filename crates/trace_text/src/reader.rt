@@ -57,6 +57,7 @@ fn has_leading_zero(digits: &[u8]) -> bool
 
 /// The axis that the digits at a place write. Where they write none, it is refused at the first digit
 /// with which they write none: the one behind a leading zero, or the one that makes the number greater than 255.
+#[tactic(auto, using(crate::proofs::Axes::value_on, crate::proofs::Axes::axis_zero, crate::proofs::Axes::axis_great, crate::proofs::Axes::axis_read))]
 fn axis_of(digits: &[u8], place: usize) -> Result<u8, TextFault>
     requires some { 0 < length digits.now }
     requires digits { AllDigits digits.now }
