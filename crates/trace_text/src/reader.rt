@@ -90,6 +90,7 @@ impl<'a> Reader<'a> {
     }
 
     /// Takes the mark that was read last, and answers the move that it ends.
+    #[tactic(auto, using(crate::proofs::Steps::digits_awaited, crate::proofs::Steps::space_taken, crate::proofs::Steps::untaken))]
     fn step(&mut self, mark: Mark) -> Result<Option<Move>, TextFault>
         requires { Marked self.old.marks.text.now mark.place self.old.marks.place (Some mark) }
         ensures marks { self.new.marks ≡ self.old.marks }

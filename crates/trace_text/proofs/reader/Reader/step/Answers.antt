@@ -1,13 +1,8 @@
-use Rattle.std.proofs.Common.{◌≡◌, false, refl, rules, arith}
+use Rattle.std.proofs.Common.{◌≡◌, false, refl, rules}
 use Rattle.std.proofs.lemmas.Result.{err_from_is_err_and}
-use Rattle.trace_text.proofs.Steps.{sign_taken, space_taken, digits_awaited, axis_taken, axis_refused, untaken}
+use Rattle.trace_text.proofs.Steps.{sign_taken, axis_taken, axis_refused, untaken}
 use Rattle.trace_text.proofs.Tracing.{taken}
 use Rattle.trace_text.proofs.reader.Reader.step.Goals as goal
-
-pub axis_of-requires : goal.axis_of-requires
-axis_of-requires c =
-    let d = digits_awaited c.args.self.now c.args.mark c.requires c.in-Axis-Digits.digits c.in-Axis-Digits.is-1 in
-    record { some = d.0; digits = d.1; fits = omega (arith, d.2, c.args.self.now.marks.fits) }
 
 pub returns-in_err-axis-in-Axis-Digits-clause-done : goal.returns-in_err-axis-in-Axis-Digits-clause-done
 returns-in_err-axis-in-Axis-Digits-clause-done c =
@@ -18,9 +13,6 @@ returns-in_err-axis-in-Axis-Digits-clause-done c =
 pub returns-in-Axis-Digits-clause-done : goal.returns-in-Axis-Digits-clause-done
 returns-in-Axis-Digits-clause-done c =
     (axis_taken c.args.self.now c.args.mark c.requires c.in-Axis-Digits.digits c.in-Axis-Digits.is-1 c.in-Axis-Digits.sense _ c.in-Axis-Digits.is-0 c.in_ok-axis-in-Axis-Digits.ensures, refl)
-
-pub returns-in-Ended-Space-clause-done : goal.returns-in-Ended-Space-clause-done
-returns-in-Ended-Space-clause-done c = space_taken c.args.self.now c.args.mark c.requires c.in-Ended-Space.is-0 c.in-Ended-Space.is-1
 
 pub returns-in-Start-Sign-clause-done : goal.returns-in-Start-Sign-clause-done
 returns-in-Start-Sign-clause-done c = sign_taken c.args.self.now c.args.mark c.requires c.in-Start-Sign.bytes c.sense_of.result (search rules) c.in-Start-Sign.is-1 c.sense_of.ensures
@@ -33,10 +25,5 @@ returns-in_default c =
 
 pub returns-in_default-2 : goal.returns-in_default-2
 returns-in_default-2 c =
-    let off : taken c.args.self.now.state c.args.mark.token ≡ false = search rules in
-    record { marks = refl; done = (c.args.mark.place, refl, untaken c.args.self.now c.args.mark c.requires off, refl) }
-
-pub returns-in_default-3 : goal.returns-in_default-3
-returns-in_default-3 c =
     let off : taken c.args.self.now.state c.args.mark.token ≡ false = search rules in
     record { marks = refl; done = (c.args.mark.place, refl, untaken c.args.self.now c.args.mark c.requires off, refl) }
