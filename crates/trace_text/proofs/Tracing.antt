@@ -99,21 +99,10 @@ short_here s state = elim state [ inl e ↦ rw e next_short | inr e ↦ rw e.1 (
 -- which token a state takes
 abbrev pub taken : State → Token → Bool
 taken Start (Sign part) = true
-taken Start (Digits part) = false
-taken Start Space = false
-taken Start Other = false
 taken Next (Sign part) = true
-taken Next (Digits part) = false
-taken Next Space = false
-taken Next Other = false
-taken (Axis f) (Sign part) = false
 taken (Axis f) (Digits part) = true
-taken (Axis f) Space = false
-taken (Axis f) Other = false
-taken Ended (Sign part) = false
-taken Ended (Digits part) = false
 taken Ended Space = true
-taken Ended Other = false
+taken _ _ = false
 
 -- what a token begins with
 abbrev First : Token → ℕ → Type 0
