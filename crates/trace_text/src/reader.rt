@@ -143,6 +143,7 @@ impl<'a> Iterator for Reader<'a> {
 fn count_moves(text: &[u8]) -> Result<usize, TextFault>
     ensures { Counted text.now result }
 {
+    // tried as a `try_fold`: its closure cannot know that the sum fits
     let mut count = 0;
     for next in Reader::new(text) {
         next?;

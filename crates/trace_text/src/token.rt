@@ -22,7 +22,7 @@ pub(crate) struct Mark<'a> {
 /// The marks of a text, from a place on.
 #[derive(Drop)]
 pub(crate) struct Marks<'a> {
-    pub text: &'a [u8],
+    text: &'a [u8],
     pub place: usize,
     ghost fits: { length text.now < 2 ^ 64 },
 }
