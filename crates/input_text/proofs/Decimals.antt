@@ -4,7 +4,7 @@ use Rattle.std.proofs.lemmas.Fmt.{decimal_digit, decimal_nonempty, decimal_step}
 use Rattle.std.proofs.lemmas.List.{length-append}
 use Rattle.std.proofs.lemmas.Bool.{cases_lt}
 use Rattle.text.specs.Reading.{Begins}
-use Rattle.input_text.specs.Parts.{Digit}
+use Rattle.text.specs.Digits.{Digit, NotDigit}
 
 pub two_digits : (k : ℕ) → 10 ≤ k → k < 100 → decimal k ≡ (48 + k / 10) ∷ (48 + k % 10) ∷ []
 two_digits k more small =
@@ -32,15 +32,12 @@ first_digit k c s t small e =
 pub not_empty : (k : ℕ) (t : List ℕ) → k < 100 → [] ≡ decimal k ++ t → ⊥
 not_empty k t small e = omega (arith, decimal_nonempty k (omega arith), simp length-append at (ap length e))
 
-abbrev pub NoDigit : ℕ → Type 0
-NoDigit c = Digit c → ⊥
-
 -- c is no further digit of the number k: only a single digit that is no zero can be followed by another
 abbrev pub Ends : ℕ → ℕ → Type 0
 Ends k c = Digit c → (k ≡ 0) ⊎ (10 ≤ k)
 
 -- a number that is read as far as it goes is the only one with which the text can begin
-pub number_cut : (k m : ℕ) (s t : List ℕ) → k < 100 → m < 100 → decimal k ++ s ≡ decimal m ++ t → Begins (Ends k) s → Begins NoDigit t → (k ≡ m) × (s ≡ t)
+pub number_cut : (k m : ℕ) (s t : List ℕ) → k < 100 → m < 100 → decimal k ++ s ≡ decimal m ++ t → Begins (Ends k) s → Begins NotDigit t → (k ≡ m) × (s ≡ t)
 number_cut k m s t small other e stop end =
     elim (digits_of k small) [
       | inl a ↦
@@ -61,7 +58,7 @@ number_cut k m s t small other e stop end =
             | inl b ↦
                 let is : (48 + k / 10) ∷ (48 + k % 10) ∷ s ≡ (48 + m) ∷ t = rw (a.1, b.1) at e in
                 let next : t ≡ (48 + k % 10) ∷ s = cc in
-                let ends : NoDigit (48 + k % 10) = rw next at end in
+                let ends : NotDigit (48 + k % 10) = rw next at end in
                 absurd (ends (omega arith, omega arith))
             | inr b ↦
                 let is : (48 + k / 10) ∷ (48 + k % 10) ∷ s ≡ (48 + m / 10) ∷ (48 + m % 10) ∷ t = rw (a.1, b.1) at e in

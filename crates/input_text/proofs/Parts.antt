@@ -1,12 +1,13 @@
 -- A line is read part by part.
-use Rattle.std.proofs.Common.{◌≡◌, ℕ, ◌+◌, ◌-◌, ◌/◌, ◌<◌, ◌≤◌, List, [], ◌∷◌, ◌++◌, length, get_or, drop, Ok, Err, decimal, sym, refl, ap, ◌∙◌, inl, inr, arith, lit<}
+use Rattle.std.proofs.Common.{◌≡◌, ℕ, ◌+◌, ◌-◌, ◌/◌, ◌<◌, ◌≤◌, List, [], ◌∷◌, ◌++◌, length, get_or, drop, None, Ok, ◌≢◌, decimal, sym, refl, ap, ◌∙◌, inl, inr, arith, lit<}
 use Rattle.std.proofs.lemmas.Fmt.{decimal_digit}
 use Rattle.std.proofs.lemmas.List.{drop_all, drop_more}
 use Rattle.std.proofs.lemmas.Bool.{cases_lt}
 use Rattle.text.specs.Reading.{Viable, Begins, Halts, Leads}
 use Rattle.text.proofs.Reading.{Any, begins_any, part, leads_over, halts_end}
-use Rattle.input_text.specs.Parts.{NumberAt, SpaceAt, EndAt}
-use Rattle.input_text.proofs.Decimals.{two_digits, first_digit, not_empty, NoDigit, Ends, number_cut}
+use Rattle.input_text.specs.Parts.{DigitAt, NumberAt}
+use Rattle.text.specs.Digits.{NotDigit}
+use Rattle.input_text.proofs.Decimals.{two_digits, first_digit, not_empty, Ends, number_cut}
 
 pub data Part : Type 0 where
   number : Part
@@ -31,7 +32,7 @@ goes_on (space ∷ ps) =
 
 -- these parts begin with no digit
 abbrev pub Apart : List Part → Type 0
-Apart ps = (t v : List ℕ) → Rest ps t v → Begins NoDigit t
+Apart ps = (t v : List ℕ) → Rest ps t v → Begins NotDigit t
 
 pub apart_end : Apart []
 apart_end t v r = rw r.0 tt
@@ -77,7 +78,7 @@ module _ (bs : List ℕ) (i : ℕ) where
     number_leads k j apart small less within is ends =
         leads_over Rest (Ends k) (number ∷ ps) ps (decimal k) (k ∷ []) (λ t v r. (k, t, v, refl, small, refl, r)) (λ t x b r. let cut = number_cut k r.0 t r.1 small r.4 r.3 b (apart r.1 r.2 r.6) in (r.2, r.5 ∙ ap (λ n. n ∷ r.2) (sym cut.0), rw cut.1 r.6)) bs i j less within is ends
 
-    pub number_read : (k j : ℕ) → Apart ps → NumberAt bs i (Ok (k, j)) → Leads Rest bs i (number ∷ ps) (k ∷ []) j ps
+    pub number_read : (k j : ℕ) → Apart ps → NumberAt bs i j (Ok k) → Leads Rest bs i (number ∷ ps) (k ∷ []) j ps
     number_read k j apart read =
         elim read [
           | inl a ↦
@@ -95,30 +96,27 @@ module _ (bs : List ℕ) (i : ℕ) where
               rw a.1 (number_leads k (i + 2) apart small (omega arith) (omega (arith, second.0)) is ends)
         ]
 
-    pub number_refused : (p : ℕ) → NumberAt bs i (Err p) → Halts Rest bs i (number ∷ ps) p
-    number_refused p none =
-        rw none.1
-        (elim (cases_lt i (length bs)) [
-          | inl h ↦ halts_at (number ∷ ps) h (λ t v r. none.0 h (first_digit r.0 (get_or bs i 0) t r.1 r.4 r.3))
+    pub number_refused : DigitAt bs i None → Halts Rest bs i (number ∷ ps) i
+    number_refused none =
+        elim (cases_lt i (length bs)) [
+          | inl h ↦ halts_at (number ∷ ps) h (λ t v r. none h (first_digit r.0 (get_or bs i 0) t r.1 r.4 r.3))
           | inr h ↦ halts_end Rest bs i (number ∷ ps) h (goes_on (number ∷ ps)) (λ v r. not_empty r.0 r.1 r.4 r.3)
-        ])
+        ]
 
-    pub space_read : (j : ℕ) → SpaceAt bs i (Ok j) → Leads Rest bs i (space ∷ ps) [] j ps
-    space_read j read =
-        let is : part bs i (i + 1) ≡ 32 ∷ [] = part_one bs i read.0 ∙ ap (λ c. c ∷ []) read.1 in
-        rw read.2 (leads_over Rest Any (space ∷ ps) ps (32 ∷ []) [] (λ t v r. (t, refl, r)) (λ t x b r. let e = r.1 in let same : t ≡ r.0 = cc in (x, refl, rw same r.2)) bs i (i + 1) (omega arith) (omega (arith, read.0)) is (begins_any (drop (i + 1) bs)))
+    pub space_read : i < length bs → get_or bs i 0 ≡ 32 → Leads Rest bs i (space ∷ ps) [] (i + 1) ps
+    space_read h is =
+        leads_over Rest Any (space ∷ ps) ps (32 ∷ []) [] (λ t v r. (t, refl, r)) (λ t x b r. let e = r.1 in let same : t ≡ r.0 = cc in (x, refl, rw same r.2)) bs i (i + 1) (omega arith) (omega arith) (part_one bs i h ∙ ap (λ c. c ∷ []) is) (begins_any (drop (i + 1) bs))
 
-    pub space_refused : (p : ℕ) → SpaceAt bs i (Err p) → Halts Rest bs i (space ∷ ps) p
-    space_refused p none =
-        rw none.1
-        (elim (cases_lt i (length bs)) [
-          | inl h ↦ halts_at (space ∷ ps) h (λ t v r. let e = r.1 in let is : get_or bs i 0 ≡ 32 = cc in none.0 h is)
+    pub space_refused : (i < length bs → get_or bs i 0 ≢ 32) → Halts Rest bs i (space ∷ ps) i
+    space_refused none =
+        elim (cases_lt i (length bs)) [
+          | inl h ↦ halts_at (space ∷ ps) h (λ t v r. let e = r.1 in let is : get_or bs i 0 ≡ 32 = cc in none h is)
           | inr h ↦ halts_end Rest bs i (space ∷ ps) h (goes_on (space ∷ ps)) (λ v r. let e = r.1 in let z : ◌≡◌ {A = ℕ} 0 1 = cc in omega arith)
-        ])
+        ]
 
   pub end_read : length bs ≤ i → Rest [] (drop i bs) []
   end_read h = (drop_all i bs h, refl)
 
-  pub end_refused : (p : ℕ) → EndAt bs i (Err p) → Halts Rest bs i [] p
-  end_refused p more =
-      rw more.1 (halts_at [] more.0 (λ t v r. let e = r.0 in let z : ◌≡◌ {A = ℕ} 0 1 = cc in omega arith))
+  pub end_refused : i < length bs → Halts Rest bs i [] i
+  end_refused more =
+      halts_at [] more (λ t v r. let e = r.0 in let z : ◌≡◌ {A = ℕ} 0 1 = cc in omega arith)

@@ -1,15 +1,25 @@
 -- Lines "k n", part by part.
-use Rattle.std.proofs.Common.{◌≡◌, ℕ, ◌≤◌, List, [], ◌∷◌, ◌++◌, length, Ok, Err, decimal, sym, refl, ap, ◌∙◌, inl, inr}
+use Rattle.std.proofs.Common.{◌≡◌, ℕ, List, [], ◌∷◌, ◌++◌, None, Ok, Err, Result, decimal, sym, refl, ap, ◌∙◌, inl, inr}
 use native.Mathlib.Nat.{sub-zero}
 use Rattle.std.proofs.lemmas.List.{append-nil}
 use Rattle.text.specs.Reading.{Stops, Halts, Leads}
-use Rattle.text.proofs.Reading.{leads_then}
-use Rattle.input_text.specs.Parts.{NumberAt, SpaceAt, EndAt}
-use Rattle.input_text.specs.Shapes.{IsShape}
-use Rattle.input_text.proofs.Parts.{Part, Rest, apart_end, apart_space, number_read, number_refused, space_read, space_refused, end_read, end_refused}
+use Rattle.text.proofs.Reading.{leads_stay, leads_then}
+use Rattle.input_text.specs.Parts.{DigitAt, NumberAt, SpaceAt, EndAt}
+use Rattle.std.specs.Result.{IsErrAnd}
+use Rattle.std.proofs.lemmas.Result.{err_from_is_err_and}
+use Rattle.faults.specs.Outcome.{told}
+use Rattle.input_text.specs.declared.shape.Numbers.{Numbers}
+use Rattle.faults.specs.Outcome.Outcome.{answered, refused}
+use Rattle.text.specs.Faults.{text_fault}
+use Rattle.text.specs.declared.fault.TextFault.{TextFault}
+use Rattle.text.specs.declared.fault.TextFault.TheVariants.{Malformed}
+use Rattle.input_text.specs.Shapes.{IsShape, ShapeOutcome}
+use Rattle.input_text.specs.Shapes.ShapeOutcome.{read, malformed}
+use Rattle.input_text.specs.declared.part.LineReader.{LineReader}
+use Rattle.input_text.proofs.Parts.{Part, Rest, Apart, number_read, number_refused, space_read, space_refused, end_read, end_refused}
 use Rattle.input_text.proofs.Parts.Part.{number, space}
 
-abbrev shape : List Part
+abbrev pub shape : List Part
 shape = number ∷ space ∷ number ∷ []
 
 in_parts : (bs ns : List ℕ) → IsShape bs ns → Rest shape bs ns
@@ -40,31 +50,47 @@ stops_in bs p h =
           ];
     }
 
--- The line bs: a number, a space at the place i, a number from the place j on, and the end at the place e.
-module _ (bs : List ℕ) where
-  pub no_first : (p : ℕ) → NumberAt bs 0 (Err p) → Stops IsShape bs p
-  no_first p none = stops_in bs p (number_refused bs 0 (space ∷ number ∷ []) p none)
+-- A reader of the line bs has read the numbers w, and these parts are awaited.
+pub record Awaits (bs w : List ℕ) (ps : List Part) (r : LineReader) : Type 0 where
+  pub line : r.line.now ≡ bs
+  pub leads : Leads Rest bs 0 shape w r.place ps
 
-  module _ (k i : ℕ) (first : NumberAt bs 0 (Ok (k, i))) where
-    to_space : Leads Rest bs 0 shape (k ∷ []) i (space ∷ number ∷ [])
-    to_space = number_read bs 0 (space ∷ number ∷ []) k i (apart_space (number ∷ [])) first
+pub starts : {bs : List ℕ} (r : LineReader) → r.line.now ≡ bs → r.place ≡ 0 → Awaits bs [] shape r
+starts {bs = bs} r line place = record { line = line; leads = rw place (leads_stay Rest bs 0 shape) }
 
-    pub no_space : (p : ℕ) → SpaceAt bs i (Err p) → Stops IsShape bs p
-    no_space p none = stops_in bs p (to_space.halts p (space_refused bs i (number ∷ []) p none))
+module _ {bs w : List ℕ} {ps : List Part} {r : LineReader} where
+  -- a part is read, and the reader is t
+  pub reads_number : (t : LineReader) (k : ℕ) → Apart ps → Awaits bs w (number ∷ ps) r → t.line.now ≡ r.line.now → NumberAt r.line.now r.place t.place (Ok k) → Awaits bs (w ++ k ∷ []) ps t
+  reads_number t k apart at same taken =
+      record {
+        line = same ∙ at.line;
+        leads = leads_then Rest bs at.leads (number_read bs r.place ps k t.place apart (rw at.line at taken));
+      }
 
-    module _ (j : ℕ) (gap : SpaceAt bs i (Ok j)) where
-      to_second : Leads Rest bs 0 shape (k ∷ []) j (number ∷ [])
-      to_second = leads_then Rest bs to_space (space_read bs i (number ∷ []) j gap)
+  pub reads_space : (t : LineReader) → Awaits bs w (space ∷ ps) r → t.line.now ≡ r.line.now → SpaceAt r.line.now r.place t.place (Ok tt) → Awaits bs w ps t
+  reads_space t at same taken =
+      let gap : SpaceAt bs r.place t.place (Ok tt) = rw at.line at taken in
+      let on : Leads Rest bs 0 shape (w ++ []) t.place ps = rw gap.2 (leads_then Rest bs at.leads (space_read bs r.place ps gap.0 gap.1)) in
+      record { line = same ∙ at.line; leads = rw append-nil at on }
 
-      pub no_second : (p : ℕ) → NumberAt bs j (Err p) → Stops IsShape bs p
-      no_second p none = stops_in bs p (to_second.halts p (number_refused bs j [] p none))
+  -- the line cannot go on
+  refused_at : (f : TextFault) → Awaits bs w ps r → f ≡ Malformed r.place → Halts Rest bs r.place ps r.place → ShapeOutcome bs (refused (text_fault f))
+  refused_at f at is halts = rw is (malformed r.place (stops_in bs r.place (at.leads.halts r.place halts)))
 
-      module _ (n e : ℕ) (second : NumberAt bs j (Ok (n, e))) where
-        to_end : Leads Rest bs 0 shape (k ∷ n ∷ []) e []
-        to_end = leads_then Rest bs to_second (number_read bs j [] n e apart_end second)
+module _ {bs w : List ℕ} {ps : List Part} {r : LineReader} {f : TextFault} where
+  pub no_number : Awaits bs w (number ∷ ps) r → DigitAt r.line.now r.place None × (f ≡ Malformed r.place) → ShapeOutcome bs (refused (text_fault f))
+  no_number at none = refused_at f at none.1 (number_refused bs r.place ps (rw at.line at none.0))
 
-        pub no_end : (p : ℕ) → EndAt bs e (Err p) → Stops IsShape bs p
-        no_end p more = stops_in bs p (to_end.halts p (end_refused bs e p more))
+  pub no_space : (j : ℕ) → Awaits bs w (space ∷ ps) r → SpaceAt r.line.now r.place j (Err f) → ShapeOutcome bs (refused (text_fault f))
+  no_space j at none = refused_at f at none.1 (space_refused bs r.place ps (rw at.line at none.0))
 
-        pub whole : length bs ≤ e → IsShape bs (k ∷ n ∷ [])
-        whole end = from_parts bs _ (to_end.reads [] (end_read bs e end))
+pub no_end : {bs w : List ℕ} {r : LineReader} {f : TextFault} → Awaits bs w [] r → EndAt r.line.now r.place (Err f) → ShapeOutcome bs (refused (text_fault f))
+no_end {bs = bs} {r = r} {f = f} at more = refused_at f at more.1 (end_refused bs r.place (rw at.line at more.0))
+
+pub whole : {bs : List ℕ} {r : LineReader} {k n : ℕ} → Awaits bs (k ∷ n ∷ []) [] r → EndAt r.line.now r.place (Ok tt) → ShapeOutcome bs (answered (record { k = k; n = n }))
+whole {bs = bs} {r = r} {k = k} {n = n} at end =
+    read (record { k = k; n = n }) (from_parts bs _ (at.leads.reads [] (end_read bs r.place (rw at.line at end))))
+
+-- the exit of a `?`
+pub exit : {bs : List ℕ} (r : Result Numbers TextFault) (f : TextFault) → IsErrAnd r (λ e. e ≡ f) → ShapeOutcome bs (refused (text_fault f)) → ShapeOutcome bs (told (λ numbers. numbers) text_fault r)
+exit r f is o = let p = err_from_is_err_and r is in rw (p.1, p.2) o

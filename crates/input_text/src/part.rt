@@ -1,46 +1,80 @@
-//! The parts of a line, each read from a place on.
-ghost use Rattle.input_text.specs.Parts.{DigitAt, NumberAt, SpaceAt, EndAt};
+//! Reading a line part by part.
+ghost use Rattle.std.specs.Prelude.{◌≡◌};
+ghost use Rattle.text.specs.declared.fault.TextFault.TheVariants.{Malformed};
+ghost use Rattle.input_text.specs.Parts.{DigitAt, NumberAt, SpaceAt, EndAt, place_behind};
 
-/// The value of the digit at a place, if one stands there.
-fn digit_at(line: &[u8], place: usize) -> Option<u8>
-    ensures { DigitAt line.now place result }
-{
-    match *line.get(place)? {
-        digit @ b'0'..=b'9' => Some(digit - b'0'),
-        _ => None,
-    }
+use text::TextFault;
+
+/// A line, and the place from which on it is left to read.
+#[derive(Drop)]
+pub(crate) struct LineReader<'a> {
+    line: &'a [u8],
+    place: usize,
 }
 
-/// Reads a number: one digit, or two where the first is no zero. A digit that can be its second is taken.
-/// Answers the number and the place behind it, or the place of the fault.
-pub(crate) fn read_number(line: &[u8], place: usize) -> Result<(u8, usize), usize>
-    ensures { NumberAt line.now place result }
-{
-    let Some(first) = digit_at(line, place) else {
-        return Err(place);
-    };
-    match digit_at(line, place + 1) {
-        Some(second) if first > 0 => Ok((first * 10 + second, place + 2)),
-        _ => Ok((first, place + 1)),
+impl<'a> LineReader<'a> {
+    /// A reader at the start of a line.
+    pub(crate) fn new(line: &'a [u8]) -> Self
+        ensures line { result.line.now ≡ line.now }
+        ensures place { result.place ≡ 0 }
+    {
+        LineReader { line, place: 0 }
     }
-}
 
-/// Reads a space. Answers the place behind it, or the place of the fault.
-pub(crate) fn read_space(line: &[u8], place: usize) -> Result<usize, usize>
-    ensures { SpaceAt line.now place result }
-{
-    match line.get(place) {
-        Some(b' ') => Ok(place + 1),
-        _ => Err(place),
+    /// Reads a number: one digit, or two where the first is no zero. A digit that can be its second is taken.
+    pub(crate) fn number(&mut self) -> Result<u8, TextFault>
+        ensures line { self.new.line.now ≡ self.old.line.now }
+        ensures number { NumberAt self.old.line.now self.old.place self.new.place result }
+    {
+        let first = self.digit().ok_or(self.fault())?;
+        if first > 0 {
+            if let Some(second) = self.digit() {
+                return Ok(first * 10 + second);
+            }
+        }
+        Ok(first)
     }
-}
 
-/// Checks that the line ends here, or answers the place of the fault.
-pub(crate) fn read_end(line: &[u8], place: usize) -> Result<(), usize>
-    ensures { EndAt line.now place result }
-{
-    match line.get(place) {
-        Some(_) => Err(place),
-        None => Ok(()),
+    /// Reads a space.
+    pub(crate) fn space(&mut self) -> Result<(), TextFault>
+        ensures line { self.new.line.now ≡ self.old.line.now }
+        ensures space { SpaceAt self.old.line.now self.old.place self.new.place result }
+    {
+        if self.line.get(self.place) != Some(&b' ') {
+            return Err(self.fault());
+        }
+        self.place += 1;
+        Ok(())
+    }
+
+    /// Checks that the line ends here.
+    pub(crate) fn end(&self) -> Result<(), TextFault>
+        ensures { EndAt self.now.line.now self.now.place result }
+    {
+        if self.place < self.line.len() {
+            return Err(self.fault());
+        }
+        Ok(())
+    }
+
+    /// Takes the digit that comes next, if one does.
+    fn digit(&mut self) -> Option<u8>
+        ensures line { self.new.line.now ≡ self.old.line.now }
+        ensures digit { DigitAt self.old.line.now self.old.place result }
+        ensures place { self.new.place ≡ place_behind self.old.place result }
+    {
+        let digit = *self.line.get(self.place)?;
+        if !digit.is_ascii_digit() {
+            return None;
+        }
+        self.place += 1;
+        Some(digit - b'0')
+    }
+
+    /// The line cannot go on from here.
+    fn fault(&self) -> TextFault
+        ensures { result ≡ Malformed self.now.place }
+    {
+        TextFault::Malformed(self.place)
     }
 }

@@ -3,3 +3,4 @@ pub mod Input
 pub mod Pieces
 pub mod Lines
 pub mod Reading
+pub mod Digits

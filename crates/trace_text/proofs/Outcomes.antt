@@ -32,8 +32,8 @@ move_split m n u v e f g =
 
 further_one : (u v : List Move) → further u ≡ further v → AxesFit u → AxesFit v → u ≡ v
 further_one [] [] e f g = refl
-further_one [] (n ∷ v) e f g = absurd (let z : ◌≡◌ {A = ℕ} 0 1 = cc in omega arith)
-further_one (m ∷ u) [] e f g = absurd (let z : ◌≡◌ {A = ℕ} 0 1 = cc in omega arith)
+further_one [] (n ∷ v) e f g = absurd (cc)
+further_one (m ∷ u) [] e f g = absurd (cc)
 further_one (m ∷ u) (n ∷ v) e f g =
     let t : move_text m ++ further u ≡ move_text n ++ further v = cc in
     let r = move_split m n u v t f.0 g.0 in
@@ -44,8 +44,8 @@ further_one (m ∷ u) (n ∷ v) e f g =
 -- a text means one list of moves
 trace_one : (u v : List Move) → trace u ≡ trace v → AxesFit u → AxesFit v → u ≡ v
 trace_one [] [] e f g = refl
-trace_one [] (n ∷ v) e f g = absurd (let z : ◌≡◌ {A = ℕ} 0 1 = cc in omega arith)
-trace_one (m ∷ u) [] e f g = absurd (let z : ◌≡◌ {A = ℕ} 0 1 = cc in omega arith)
+trace_one [] (n ∷ v) e f g = absurd (cc)
+trace_one (m ∷ u) [] e f g = absurd (cc)
 trace_one (m ∷ u) (n ∷ v) e f g =
     let r = move_split m n u v e f.0 g.0 in
     let rest = further_one u v r.1 f.1 g.1 in

@@ -1,5 +1,5 @@
 -- What the reader of traces can read in each state.
-use Rattle.std.proofs.Common.{◌≡◌, ℕ, ◌+◌, ◌<◌, ◌≤◌, Bool, true, false, ◌⊎◌, ◌↔◌, List, [], ◌∷◌, ◌++◌, length, take, drop, decimal, sym, refl, ap, ◌∙◌, inl, inr, add-zero, arith, lit<, take-append-drop}
+use Rattle.std.proofs.Common.{◌≡◌, ℕ, ◌+◌, ◌<◌, ◌≤◌, Bool, true, false, ◌⊎◌, ◌↔◌, List, [], ◌∷◌, ◌++◌, length, take, drop, decimal, sym, refl, ap, ◌∙◌, inl, inr, add-zero, arith, lit<}
 use Rattle.std.proofs.lemmas.Fmt.{decimal_digit, decimal_nonempty, decimal_injective}
 use Rattle.std.proofs.lemmas.List.{append-nil, length-append}
 use Rattle.std.proofs.lemmas.Bool.{true≢false}
@@ -7,16 +7,18 @@ use Rattle.letter_order.specs.declared.moves.Move.{Move}
 use Rattle.letter_order.specs.declared.moves.Sense.{Sense}
 use Rattle.letter_order.specs.declared.moves.Sense.TheVariants.{Reverse, Forward}
 use Rattle.text.specs.Reading.{Viable, Begins, Halts, Leads}
-use Rattle.trace_text.specs.States.{Rest, Behind, AxisFront}
-use Rattle.trace_text.specs.Tokens.{Digit, NotDigit, AllDigits, Stands}
+use Rattle.trace_text.specs.States.{Rest, AxisFront}
+use Rattle.text.specs.Digits.{Digit, NotDigit, AllDigits}
+use Rattle.trace_text.specs.Tokens.{Stands}
 use Rattle.trace_text.specs.Traces.{sign, further, trace, AxesFit, IsTrace}
 use Rattle.trace_text.specs.declared.reader.State.{State}
 use Rattle.trace_text.specs.declared.reader.State.TheVariants.{Start, Next, Axis, Ended}
 use Rattle.trace_text.specs.declared.token.Token.{Token}
 use Rattle.trace_text.specs.declared.token.Token.TheVariants.{Sign, Digits, Space, Other}
 use Rattle.trace_text.proofs.Axes.{decimal_digits}
-use Rattle.text.proofs.Reading.{Any, begins_any, part, part_rest, leads_over, halts_in}
-use Rattle.trace_text.proofs.Runs.{digits_front, run_front, same_run}
+use Rattle.text.proofs.Reading.{Any, begins_any, part, leads_over, halts_in}
+use Rattle.std.proofs.lemmas.List.Elements.{All-head, All-take}
+use Rattle.trace_text.proofs.Runs.{run_front, same_run}
 
 abbrev pub along : Sense → ℕ → Move
 along sense axis = record { axis = axis; sense = sense }
@@ -38,20 +40,20 @@ further_stops [] = tt
 further_stops (m ∷ ms) = λ d. omega arith
 
 further_first : (c : ℕ) (t : List ℕ) (ms : List Move) → c ∷ t ≡ further ms → c ≡ 32
-further_first c t [] e = absurd (let z : ◌≡◌ {A = ℕ} 0 1 = cc in omega arith)
+further_first c t [] e = absurd (cc)
 further_first c t (m ∷ ms) e = cc
 
 trace_first : (c : ℕ) (t : List ℕ) (ms : List Move) → c ∷ t ≡ trace ms → (c ≡ 43) ⊎ (c ≡ 45)
-trace_first c t [] e = absurd (let z : ◌≡◌ {A = ℕ} 0 1 = cc in omega arith)
+trace_first c t [] e = absurd (cc)
 trace_first c t (m ∷ ms) e = let is : c ≡ sign m.sense = cc in rw is (sign_told m.sense)
 
 first_digit : (c : ℕ) (t digits behind : List ℕ) → 0 < length digits → AllDigits digits → c ∷ t ≡ digits ++ behind → Digit c
 first_digit c t [] behind some run e = absurd (omega arith)
-first_digit c t (d ∷ digits) behind some run e = let is : c ≡ d = cc in rw is run.0
+first_digit c t (d ∷ digits) behind some run e = let is : c ≡ d = cc in rw is (All-head Digit d digits run)
 
 -- behind a sign: an axis, and further moves
 axis_then : (f : Sense) (bs : List ℕ) (ms : List Move) → Rest (Axis f) bs ms → (a : ℕ) × (v : List Move) × (ms ≡ along f a ∷ v) × (a < 256) × AxesFit v × (bs ≡ decimal a ++ further v)
-axis_then f bs [] r = let e = r.0 in absurd (let z : ◌≡◌ {A = ℕ} 0 1 = cc in omega arith)
+axis_then f bs [] r = let e = r.0 in absurd (cc)
 axis_then f bs (m ∷ ms) r =
     let e = r.0 in
     let s : sign f ≡ sign m.sense = cc in
@@ -69,15 +71,15 @@ goes_on Ended = ([], [], (refl, tt))
 trace_ends : (ms : List Move) → IsTrace [] ms ↔ (ms ≡ [])
 trace_ends [] = (λ r. refl, λ e. (refl, tt))
 trace_ends (m ∷ ms) = (
-  λ r. let e = r.0 in absurd (let z : ◌≡◌ {A = ℕ} 0 1 = cc in omega arith),
-  λ e. absurd (let z : ◌≡◌ {A = ℕ} 0 1 = cc in omega arith),
+  λ r. let e = r.0 in absurd (cc),
+  λ e. absurd (cc),
 )
 
 ended_ends : (ms : List Move) → Rest Ended [] ms ↔ (ms ≡ [])
 ended_ends [] = (λ r. refl, λ e. (refl, tt))
 ended_ends (m ∷ ms) = (
-  λ r. let e = r.0 in absurd (let z : ◌≡◌ {A = ℕ} 0 1 = cc in omega arith),
-  λ e. absurd (let z : ◌≡◌ {A = ℕ} 0 1 = cc in omega arith),
+  λ r. let e = r.0 in absurd (cc),
+  λ e. absurd (cc),
 )
 
 pub ends_here : (s : State) → (s ≡ Start) ⊎ (s ≡ Ended) → (ms : List Move) → Rest s [] ms ↔ (ms ≡ [])
@@ -97,21 +99,10 @@ short_here s state = elim state [ inl e ↦ rw e next_short | inr e ↦ rw e.1 (
 -- which token a state takes
 abbrev pub taken : State → Token → Bool
 taken Start (Sign part) = true
-taken Start (Digits part) = false
-taken Start Space = false
-taken Start Other = false
 taken Next (Sign part) = true
-taken Next (Digits part) = false
-taken Next Space = false
-taken Next Other = false
-taken (Axis f) (Sign part) = false
 taken (Axis f) (Digits part) = true
-taken (Axis f) Space = false
-taken (Axis f) Other = false
-taken Ended (Sign part) = false
-taken Ended (Digits part) = false
 taken Ended Space = true
-taken Ended Other = false
+taken _ _ = false
 
 -- what a token begins with
 abbrev First : Token → ℕ → Type 0
@@ -122,7 +113,7 @@ First Other c = (c ≡ 43 → ⊥) × (c ≡ 45 → ⊥) × (c ≡ 32 → ⊥) �
 
 run_first : (bytes : List ℕ) → 0 < length bytes → AllDigits bytes → (c : ℕ) × (more : List ℕ) × (bytes ≡ c ∷ more) × Digit c
 run_first [] some run = absurd (omega arith)
-run_first (c ∷ more) some run = (c, more, refl, run.0)
+run_first (c ∷ more) some run = (c, more, refl, All-head Digit c more run)
 
 first_of : (t : Token) (bytes behind : List ℕ) → Stands t bytes behind → (c : ℕ) × (more : List ℕ) × (bytes ≡ c ∷ more) × First t c
 first_of (Sign part) bytes behind h = elim h.1 [ inl e ↦ (43, [], e, inl refl) | inr e ↦ (45, [], e, inr refl) ]
@@ -136,26 +127,26 @@ axis_first f c t x r =
     first_digit c t (decimal a.0) (further a.1) (decimal_nonempty a.0 (omega (arith, a.3))) (decimal_digits a.0 a.3) a.5
 
 -- a token that a state does not take: nothing goes on with its first byte
-stuck : (s : State) (t : Token) (c : ℕ) → First t c → taken s t ≡ false → Behind s c → (bs : List ℕ) (x : List Move) → Rest s (c ∷ bs) x → ⊥
-stuck Start (Sign part) c h off b bs x r = absurd (true≢false off)
-stuck Start (Digits part) c h off b bs x r = omega (arith, trace_first c bs x r.0)
-stuck Start Space c h off b bs x r = omega (arith, trace_first c bs x r.0)
-stuck Start Other c h off b bs x r = elim (trace_first c bs x r.0) [ inl e ↦ h.0 e | inr e ↦ h.1 e ]
-stuck Next (Sign part) c h off b bs x r = absurd (true≢false off)
-stuck Next (Digits part) c h off b bs x r = omega (arith, trace_first c bs x r.0.0)
-stuck Next Space c h off b bs x r = omega (arith, trace_first c bs x r.0.0)
-stuck Next Other c h off b bs x r = elim (trace_first c bs x r.0.0) [ inl e ↦ h.0 e | inr e ↦ h.1 e ]
-stuck (Axis f) (Sign part) c h off b bs x r = omega (arith, axis_first f c bs x r)
-stuck (Axis f) (Digits part) c h off b bs x r = absurd (true≢false off)
-stuck (Axis f) Space c h off b bs x r = omega (arith, axis_first f c bs x r)
-stuck (Axis f) Other c h off b bs x r = h.3 (axis_first f c bs x r)
-stuck Ended (Sign part) c h off b bs x r = omega (arith, further_first c bs x r.0)
-stuck Ended (Digits part) c h off b bs x r = b h
-stuck Ended Space c h off b bs x r = absurd (true≢false off)
-stuck Ended Other c h off b bs x r = h.2 (further_first c bs x r.0)
+stuck : (s : State) (t : Token) (c : ℕ) → First t c → taken s t ≡ false → (bs : List ℕ) (x : List Move) → Rest s (c ∷ bs) x → ⊥
+stuck Start (Sign part) c h off bs x r = absurd (true≢false off)
+stuck Start (Digits part) c h off bs x r = omega (arith, trace_first c bs x r.0)
+stuck Start Space c h off bs x r = omega (arith, trace_first c bs x r.0)
+stuck Start Other c h off bs x r = elim (trace_first c bs x r.0) [ inl e ↦ h.0 e | inr e ↦ h.1 e ]
+stuck Next (Sign part) c h off bs x r = absurd (true≢false off)
+stuck Next (Digits part) c h off bs x r = omega (arith, trace_first c bs x r.0.0)
+stuck Next Space c h off bs x r = omega (arith, trace_first c bs x r.0.0)
+stuck Next Other c h off bs x r = elim (trace_first c bs x r.0.0) [ inl e ↦ h.0 e | inr e ↦ h.1 e ]
+stuck (Axis f) (Sign part) c h off bs x r = omega (arith, axis_first f c bs x r)
+stuck (Axis f) (Digits part) c h off bs x r = absurd (true≢false off)
+stuck (Axis f) Space c h off bs x r = omega (arith, axis_first f c bs x r)
+stuck (Axis f) Other c h off bs x r = h.3 (axis_first f c bs x r)
+stuck Ended (Sign part) c h off bs x r = omega (arith, further_first c bs x r.0)
+stuck Ended (Digits part) c h off bs x r = omega (arith, further_first c bs x r.0)
+stuck Ended Space c h off bs x r = absurd (true≢false off)
+stuck Ended Other c h off bs x r = h.2 (further_first c bs x r.0)
 
 trace_some : (c : ℕ) (t : List ℕ) (ms : List Move) → c ∷ t ≡ trace ms → 0 < length ms
-trace_some c t [] e = absurd (let z : ◌≡◌ {A = ℕ} 0 1 = cc in omega arith)
+trace_some c t [] e = absurd (cc)
 trace_some c t (m ∷ ms) e = omega arith
 
 -- a space is followed by a trace
@@ -164,7 +155,7 @@ space_on t [] r = absurd (omega (arith, r.1))
 space_on t (m ∷ ms) r = (ap (λ l. 32 ∷ l) r.0.0, r.0.1)
 
 space_back : (t : List ℕ) (ms : List Move) → Rest Ended (32 ∷ t) ms → Rest Next t ms
-space_back t [] r = let e = r.0 in absurd (let z : ◌≡◌ {A = ℕ} 0 1 = cc in omega arith)
+space_back t [] r = let e = r.0 in absurd (cc)
 space_back t (m ∷ ms) r = let e = r.0 in let f : t ≡ trace (m ∷ ms) = cc in ((f, r.1), omega arith)
 
 -- a whole run of digits is the axis
@@ -206,16 +197,13 @@ module _ (bs : List ℕ) (i j : ℕ) (less : i < j) (within : j ≤ length bs) w
 
   pub axis_halts : (f : Sense) (k : ℕ) → AllDigits (part bs i j) → k < length (part bs i j) → AxisFront (take k (part bs i j)) → (AxisFront (take (k + 1) (part bs i j)) → ⊥) → Halts Rest bs i (Axis f) (i + k)
   axis_halts f k run h front none =
-      let digits : AllDigits (take (k + 1) (part bs i j)) = digits_front (take (k + 1) (part bs i j)) (drop (k + 1) (part bs i j)) (rw take-append-drop run) in
-      halts_in Rest bs i j k (Axis f) less within h (axis_viable f (take k (part bs i j)) front) (λ v. none (viable_axis f (take (k + 1) (part bs i j)) digits v))
+      halts_in Rest bs i j k (Axis f) less within h (axis_viable f (take k (part bs i j)) front) (λ v. none (viable_axis f (take (k + 1) (part bs i j)) (All-take Digit (k + 1) (part bs i j) run) v))
 
-  pub token_halts : (s : State) (t : Token) → Stands t (part bs i j) (drop j bs) → taken s t ≡ false → Begins (Behind s) (drop i bs) → Halts Rest bs i s i
-  token_halts s t h off b =
+  pub token_halts : (s : State) (t : Token) → Stands t (part bs i j) (drop j bs) → taken s t ≡ false → Halts Rest bs i s i
+  token_halts s t h off =
       let first = first_of t (part bs i j) (drop j bs) h in
       let c = first.0 in
-      let e : drop i bs ≡ c ∷ (first.1 ++ drop j bs) = (part_rest bs i j less within).0 ∙ ap (λ l. l ++ drop j bs) first.2 in
-      let here : Behind s c = rw e at b in
       let some : 0 < length (part bs i j) = rw first.2 (omega arith) in
       let one : take 1 (part bs i j) ≡ c ∷ [] = ap (take 1) first.2 in
-      let none : Viable (Rest s) (take 1 (part bs i j)) → ⊥ = rw one (λ v. stuck s t c first.3 off here v.0 v.1 v.2) in
+      let none : Viable (Rest s) (take 1 (part bs i j)) → ⊥ = rw one (λ v. stuck s t c first.3 off v.0 v.1 v.2) in
       rw add-zero at (halts_in Rest bs i j 0 s less within some (goes_on s) none)

@@ -1,13 +1,12 @@
 //! Reading a trace: its marks one by one, in a state that says what may follow.
-ghost use Rattle.std.specs.Prelude.{◌≡◌, ◌<◌, ◌≤◌, ◌⊎◌, List, [], ◌∷◌, length, drop, IfOk, Some, Ok, Decides, MatchResult};
+ghost use Rattle.std.specs.Prelude.{◌≡◌, ◌+◌, ◌<◌, ◌≤◌, ◌⊎◌, ◌^◌, List, [], ◌∷◌, length, IfOk, Some, Ok, Decides, MatchResult};
 ghost use Rattle.faults.specs.Outcome.{told};
-ghost use Rattle.faults.specs.Outcome.Outcome.{answered};
 ghost use Rattle.lent_list.specs.Lent.{places, items, over};
 ghost use Rattle.text.specs.Faults.{text_fault};
-ghost use Rattle.text.specs.Reading.{Begins};
-ghost use Rattle.trace_text.specs.Tokens.{AllDigits, Marked};
+ghost use Rattle.text.specs.Digits.{AllDigits};
+ghost use Rattle.trace_text.specs.Tokens.{Marked};
 ghost use Rattle.trace_text.specs.Traces.{sign, IsTrace, TraceOutcome, OneOutcome};
-ghost use Rattle.trace_text.specs.States.{Behind, LeadingZero, AxisRead, Begun, Ready, Stepped, Moved, Counted, text_of};
+ghost use Rattle.trace_text.specs.States.{LeadingZero, AxisRead, HasRead, Stepped, Counted};
 
 use crate::token::{Mark, Marks, Token};
 use lent_list::LentList;
@@ -31,7 +30,7 @@ enum State {
     Ended,
 }
 
-/// A reader: the marks that are left to read, and what it awaits.
+/// A reader of the moves of a text: the marks that are left to read, and what it awaits.
 #[derive(Drop)]
 struct Reader<'a> {
     marks: Marks<'a>,
@@ -56,21 +55,23 @@ fn has_leading_zero(digits: &[u8]) -> bool
     digits.len() > 1 && digits[0] == b'0'
 }
 
-/// The axis that digits write, or the offset of the first digit with which they write none:
-/// the one behind a leading zero, or the one that makes the number greater than 255.
-fn axis_of(digits: &[u8]) -> Result<u8, usize>
+/// The axis that the digits at a place write. Where they write none, it is refused at the first digit
+/// with which they write none: the one behind a leading zero, or the one that makes the number greater than 255.
+#[tactic(auto, using(crate::proofs::Axes::value_on, crate::proofs::Axes::axis_zero, crate::proofs::Axes::axis_great, crate::proofs::Axes::axis_read))]
+fn axis_of(digits: &[u8], place: usize) -> Result<u8, TextFault>
     requires some { 0 < length digits.now }
     requires digits { AllDigits digits.now }
-    ensures { AxisRead digits.now result }
+    requires fits { place + length digits.now < 2 ^ 64 }
+    ensures { AxisRead digits.now place result }
 {
     if has_leading_zero(digits) {
-        return Err(1);
+        return Err(TextFault::Malformed(place + 1));
     }
     let mut axis: u16 = 0;
     for (offset, digit) in digits.iter().enumerate() {
         axis = axis * 10 + (*digit - b'0') as u16;
         if axis > 255 {
-            return Err(offset);
+            return Err(TextFault::Malformed(place + offset));
         }
     }
     Ok(axis as u8)
@@ -78,8 +79,9 @@ fn axis_of(digits: &[u8]) -> Result<u8, usize>
 
 impl<'a> Reader<'a> {
     /// A reader at the start of a text.
+    #[tactic(auto, using(crate::proofs::Turns::starts))]
     fn new(text: &'a [u8]) -> Self
-        ensures { Begun text.now result }
+        ensures { HasRead text.now [] result }
     {
         Reader {
             marks: Marks::new(text),
@@ -88,80 +90,87 @@ impl<'a> Reader<'a> {
     }
 
     /// Takes the mark that was read last, and answers the move that it ends.
+    #[tactic(auto, using(crate::proofs::Steps::digits_awaited, crate::proofs::Steps::space_taken, crate::proofs::Steps::untaken))]
     fn step(&mut self, mark: Mark) -> Result<Option<Move>, TextFault>
-        requires few { length self.old.marks.text.now ≤ 4096 }
-        requires marked { Marked self.old.marks.text.now mark.place self.old.marks.place (Some mark) }
-        requires behind { Begins (Behind self.old.state) (drop mark.place self.old.marks.text.now) }
+        requires { Marked self.old.marks.text.now mark.place self.old.marks.place (Some mark) }
         ensures marks { self.new.marks ≡ self.old.marks }
         ensures done { Stepped mark.entry.place self.old self.new result }
     {
         match (self.state, mark.token) {
-            (State::Start, Token::Sign(bytes)) => self.state = State::Axis(sense_of(bytes)),
-            (State::Next, Token::Sign(bytes)) => self.state = State::Axis(sense_of(bytes)),
-            (State::Axis(sense), Token::Digits(digits)) => match axis_of(digits) {
-                Ok(axis) => {
-                    self.state = State::Ended;
-                    return Ok(Some(Move { axis, sense }));
-                }
-                Err(offset) => return Err(TextFault::Malformed(mark.place + offset)),
-            },
+            (State::Start | State::Next, Token::Sign(bytes)) => {
+                self.state = State::Axis(sense_of(bytes));
+            }
+            (State::Axis(sense), Token::Digits(digits)) => {
+                let axis = axis_of(digits, mark.place)?;
+                self.state = State::Ended;
+                return Ok(Some(Move { axis, sense }));
+            }
             (State::Ended, Token::Space) => self.state = State::Next,
             _ => return Err(TextFault::Malformed(mark.place)),
         }
         Ok(None)
     }
+}
 
-    /// Reads to the end of the next move, or finds that none is left.
-    fn next_move(&mut self) -> Result<Option<Move>, TextFault>
-        requires { Ready self.old }
-        ensures text { text_of self.new ≡ text_of self.old }
-        ensures done { Moved self.old self.new result }
-    {
+/// Each move of the text, up to the first fault.
+impl<'a> Iterator for Reader<'a> {
+    ghost use Rattle.trace_text.specs.States.{GivesMove, moves_left};
+
+    type Item = Result<Move, TextFault>;
+
+    ghost next_gives = { GivesMove };
+
+    ghost remaining = { moves_left };
+
+    fn next(&mut self) -> Option<Result<Move, TextFault>> {
         while let Some(mark) = self.marks.next() {
-            if let Some(ended) = self.step(mark)? {
-                return Ok(Some(ended));
+            if let Some(ended) = self.step(mark).transpose() {
+                return Some(ended);
             }
         }
         match self.state {
-            State::Start | State::Ended => Ok(None),
-            State::Next | State::Axis(_) => Err(TextFault::Malformed(self.marks.place)),
+            State::Start | State::Ended => None,
+            State::Next | State::Axis(_) => {
+                // that the text ends early is told once
+                self.state = State::Ended;
+                Some(Err(TextFault::Malformed(self.marks.place)))
+            }
         }
     }
 }
 
 /// How many moves a text has.
 fn count_moves(text: &[u8]) -> Result<usize, TextFault>
-    requires { length text.now ≤ 4096 }
-    ensures counted { Counted text.now result }
-    ensures one { OneOutcome }
+    ensures { Counted text.now result }
 {
-    let mut reader = Reader::new(text);
+    // tried as a `try_fold`: its closure cannot know that the sum fits
     let mut count = 0;
-    while let Some(_) = reader.next_move()? {
+    for next in Reader::new(text) {
+        next?;
         count += 1;
     }
     Ok(count)
 }
 
-/// Puts the moves of a text into a list, in the place of all that there are.
+/// Puts the moves of a trace into a list, in the place of all that there are.
 fn fill(text: &[u8], moves: &mut LentList<Move>) -> Result<(), TextFault>
-    requires few { length text.now ≤ 4096 }
-    requires room { (ms : List Move) × IsTrace text.now ms × (length ms ≤ length (places moves.old)) }
+    requires { (ms : List Move) × IsTrace text.now ms × (length ms ≤ length (places moves.old)) }
     ensures done { result ≡ Ok tt }
-    ensures outcome { TraceOutcome text.now (length (places moves.old)) (answered (items moves.new)) }
+    ensures moves { IsTrace text.now (items moves.new) }
+    ensures within { length (items moves.new) ≤ length (places moves.old) }
     ensures memory { places moves.new ≡ over (items moves.new) (places moves.old) }
     ensures lender { moves.new.memory.ghost_name ≡ moves.old.memory.ghost_name }
 {
     moves.clear();
-    let mut reader = Reader::new(text);
-    while let Some(next) = reader.next_move()? {
-        let _ = moves.push(next);
+    for next in Reader::new(text) {
+        let _ = moves.push(next?);
     }
     Ok(())
 }
 
 /// Reads the moves of a text of at most 4,096 bytes into a list, in the place of all that there are.
 /// Answers how many there are. A refused call alters nothing.
+#[tactic(auto, using(crate::proofs::Outcomes::one_outcome))]
 pub fn read_trace(text: &[u8], moves: &mut LentList<Move>) -> Result<usize, TextFault>
     ensures outcome { TraceOutcome text.now (length (places moves.old)) (told (λ _. items moves.new) text_fault result) }
     ensures count { IfOk result (λ n. n ≡ length (items moves.new)) }

@@ -1,7 +1,7 @@
 //! The tokens of a trace text.
-ghost use Rattle.std.specs.Prelude.{◌≡◌, ◌≤◌, length, take, drop, Decides};
-ghost use Rattle.text.specs.Reading.{Begins};
-ghost use Rattle.trace_text.specs.Tokens.{Digit, NotDigit, AllDigits, Tokened, Marked};
+ghost use Rattle.std.specs.Prelude.{◌≡◌, ◌<◌, ◌^◌, length};
+ghost use Rattle.std.specs.List.{prefix_len};
+ghost use Rattle.std.specs.Char.{is_ascii_digit};
 
 /// What stands in a text: a sign, a whole run of digits, a space, or any other byte.
 #[derive(Clone, Copy)]
@@ -22,46 +22,41 @@ pub(crate) struct Mark<'a> {
 /// The marks of a text, from a place on.
 #[derive(Drop)]
 pub(crate) struct Marks<'a> {
-    pub text: &'a [u8],
+    text: &'a [u8],
     pub place: usize,
-}
-
-/// Whether a character is a decimal digit.
-fn is_digit(c: char) -> bool
-    ensures { Decides result (Digit c) }
-{
-    matches!(c, '0'..='9')
+    ghost fits: { length text.now < 2 ^ 64 },
 }
 
 /// How many digits a text begins with.
 fn leading_digits(text: &[u8]) -> usize
-    ensures within { result ≤ length text.now }
-    ensures digits { AllDigits (take result text.now) }
-    ensures whole { Begins NotDigit (drop result text.now) }
+    ensures { result ≡ prefix_len is_ascii_digit text.now }
 {
-    for (place, byte) in text.iter().enumerate() {
-        if !is_digit(*byte as char) {
-            return place;
-        }
-    }
-    text.len()
+    text.iter().take_while(|byte| byte.is_ascii_digit()).count()
 }
 
-/// The token that a text begins with, and how many bytes it has.
-fn first_token<'a>(text: &'a [u8]) -> Option<(Token<'a>, usize)>
-    ensures { Tokened text.now result }
-{
-    let first = *text.first()?;
-    let alone = &text[..1];
-    match first as char {
-        '+' => Some((Token::Sign(alone), 1)),
-        '-' => Some((Token::Sign(alone), 1)),
-        ' ' => Some((Token::Space, 1)),
-        '0'..='9' => {
-            let size = leading_digits(text);
-            Some((Token::Digits(&text[..size]), size))
+impl<'a> Token<'a> {
+    ghost use Rattle.trace_text.specs.Tokens.{size_of, Tokened};
+
+    /// The token that a text begins with.
+    fn first(text: &'a [u8]) -> Option<Self>
+        ensures { Tokened text.now result }
+    {
+        match *text.first()? {
+            b'+' | b'-' => Some(Token::Sign(&text[..1])),
+            b' ' => Some(Token::Space),
+            b'0'..=b'9' => Some(Token::Digits(&text[..leading_digits(text)])),
+            _ => Some(Token::Other),
         }
-        _ => Some((Token::Other, 1)),
+    }
+
+    /// How many bytes it has.
+    fn size(self) -> usize
+        ensures { result ≡ size_of self.entry }
+    {
+        match self {
+            Token::Sign(part) | Token::Digits(part) => part.len(),
+            Token::Space | Token::Other => 1,
+        }
     }
 }
 
@@ -73,18 +68,21 @@ impl<'a> Marks<'a> {
     {
         Marks { text, place: 0 }
     }
+}
 
-    /// The next mark, or none at the end of the text.
-    pub(crate) fn next(&mut self) -> Option<Mark<'a>>
-        ensures text { self.new.text.now ≡ self.old.text.now }
-        ensures mark { Marked self.old.text.now self.old.place self.new.place result }
-    {
-        if self.place >= self.text.len() {
-            return None;
-        }
-        let (token, size) = first_token(&self.text[self.place..])?;
+impl<'a> Iterator for Marks<'a> {
+    ghost use Rattle.trace_text.specs.Tokens.{GivesMark, bytes_left};
+
+    type Item = Mark<'a>;
+
+    ghost next_gives = { GivesMark };
+
+    ghost remaining = { bytes_left };
+
+    fn next(&mut self) -> Option<Mark<'a>> {
         let place = self.place;
-        self.place += size;
+        let token = Token::first(self.text.get(place..)?)?;
+        self.place += token.size();
         Some(Mark { token, place })
     }
 }

@@ -1,13 +1,14 @@
-use Rattle.std.proofs.Common.{◌≡◌, ◌-◌, ◌≤◌, List, length}
+use Rattle.std.proofs.Common.{◌≡◌, ◌+◌, ◌≤◌, List, length}
+use Rattle.std.specs.Iterator.{size}
 use Rattle.letter_order.specs.declared.moves.Move.{Move}
-use Rattle.trace_text.specs.States.{text_of, place_of}
-use Rattle.trace_text.proofs.Turns.{Onward}
+use Rattle.trace_text.specs.States.{HasRead, moves_left}
 use Rattle.trace_text.proofs.reader.count_moves.Given as goal
 
--- so many moves have been read, and each has a byte at least
-abbrev pub invariant-loop-count : goal.invariant-loop-count
-invariant-loop-count l =
-    (w : List Move) × Onward l.initial.reader w l.reader × (length w ≡ l.count) × (l.count ≤ place_of l.reader)
-
-abbrev pub decreases-loop-count : goal.decreases-loop-count
-decreases-loop-count l = length (text_of l.reader) - place_of l.reader
+-- so many moves have been read
+abbrev pub invariant-loop-next : goal.invariant-loop-next
+invariant-loop-next l = record {
+  can_next : goal.iterator-loop-next.can_next l.next-iterator;
+  is_finite : goal.iterator-loop-next.is_finite l.next-iterator;
+  moves : (w : List Move) × HasRead l.text w l.next-iterator × (length w ≡ l.count);
+  few : l.count + size (moves_left l.next-iterator) ≤ size (moves_left l.initial.next-iterator);
+}
