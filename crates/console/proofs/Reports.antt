@@ -19,7 +19,11 @@ settles items P (Err (NoMemory e)) printed p is = subst (λ r. IfOk r (λ v. P (
 
 -- ---- what is printed for an input
 
--- the front of an input decides it
+-- its line decides it
+pub line_prints : (P : List ℕ → List ℕ → Type 0) (input line printed : List ℕ) → answered line ≡ first_line input → P line printed → OutcomePrints P (first_line input) printed
+line_prints P input line printed is p = subst (λ o. OutcomePrints P o printed) is p
+
+-- its front decides it
 pub front_prints : (P : List ℕ → List ℕ → Type 0) (input printed : List ℕ) → OutcomePrints P (first_line (take 4097 input)) printed → OutcomePrints P (first_line input) printed
 unfolding FrontDecides
 front_prints P input printed p = subst (λ o. OutcomePrints P o printed) (front_decides input) p

@@ -1,6 +1,7 @@
 -- What the parts of a report come to.
-use Rattle.std.proofs.Common.{◌≡◌, ℕ, List, [], ◌∷◌, Ok, Err, Result, MatchResult, sym, refl, ap, ◌∙◌, subst, arith}
+use Rattle.std.proofs.Common.{◌≡◌, ℕ, List, [], ◌∷◌, true, Ok, Err, Result, MatchResult, is_ok, sym, refl, ap, ◌∙◌, subst, arith}
 use Rattle.std.specs.Result.{IsErrAnd}
+use Rattle.std.proofs.lemmas.Bool.{false≢true}
 use Rattle.faults.specs.declared.Fault.{Fault}
 use Rattle.faults.specs.declared.Layer.TheVariants.{Text}
 use Rattle.faults.specs.Faults.{found}
@@ -18,45 +19,37 @@ use Rattle.bracket_table.specs.Views.{shape_checked}
 use Rattle.bracket_table.specs.declared.fault.TableFault.{TableFault}
 use Rattle.table.specs.Printed.{Determined, LinePrints, Prints, ShapePrints, printed_table}
 use Rattle.console.specs.Reports.{OutcomePrints}
-use Rattle.console.proofs.Reports.{front_prints, one_prints}
+use Rattle.console.proofs.Reports.{front_prints, line_prints, one_prints}
 use Rattle.table.specs.Printed.LinePrints.{shape, malformed}
-
--- ---- a fault of the table, which becomes a fault by `map_err`
-
-abbrev Mapped : Result (Unit {0}) TableFault → Result (Unit {0}) Fault → Type 0
-Mapped r mapped =
-    MatchResult r (λ x. mapped ≡ Ok x) (λ e. IsErrAnd mapped (λ f. f ≡ table_fault e))
-
-pub map_refused : (r : Result (Unit {0}) TableFault) (f : Fault) (o : Outcome (Unit {0})) → Mapped r (Err f) → told (λ done. done) table_fault r ≡ o → refused f ≡ o
-map_refused (Ok done) f o m is = absurd (let z : ◌≡◌ {A = ℕ} 0 1 = cc in omega arith)
-map_refused (Err e) f o m is = ap refused m ∙ is
-
-pub map_answered : (r : Result (Unit {0}) TableFault) (done : Unit {0}) (o : Outcome (Unit {0})) → Mapped r (Ok done) → told (λ done. done) table_fault r ≡ o → answered tt ≡ o
-map_answered (Ok x) done o m is = is
-map_answered (Err e) done o m is = absurd m
 
 -- ---- lines
 
--- the line of an input prints what the input prints
-pub line_prints : (input line printed : List ℕ) → answered line ≡ first_line input → LinePrints line printed → Prints input printed
-line_prints input line printed is p = subst (λ o. OutcomePrints LinePrints o printed) is p
-
-pub numbers_read : (bs : List ℕ) (s : Numbers) (o : Outcome Numbers) → ShapeOutcome bs o → o ≡ answered s → IsShape bs (s.k ∷ s.n ∷ [])
+numbers_read : (bs : List ℕ) (s : Numbers) (o : Outcome Numbers) → ShapeOutcome bs o → o ≡ answered s → IsShape bs (s.k ∷ s.n ∷ [])
 numbers_read bs s o (read t f) e = let same : t ≡ s = cc in subst (λ z. IsShape bs (z.k ∷ z.n ∷ [])) same f
 numbers_read bs s o (stopped p h) e = absurd (let z : ◌≡◌ {A = ℕ} 0 1 = cc in omega arith)
 
-pub numbers_refused : (bs : List ℕ) (f : Fault) (o : Outcome Numbers) → ShapeOutcome bs o → o ≡ refused f → LinePrints bs (fault_line f.number)
-numbers_refused bs f o (read s h) e = absurd (let z : ◌≡◌ {A = ℕ} 0 1 = cc in omega arith)
-numbers_refused bs f o (stopped p h) e =
+numbers_malformed : (bs : List ℕ) (f : Fault) (o : Outcome Numbers) → ShapeOutcome bs o → o ≡ refused f → LinePrints bs (fault_line f.number)
+numbers_malformed bs f o (read s h) e = absurd (let z : ◌≡◌ {A = ℕ} 0 1 = cc in omega arith)
+numbers_malformed bs f o (stopped p h) e =
     let same : f ≡ found 15 Text p 0 = cc in malformed p h (ap (λ g. fault_line g.number) same)
 
-pub shape_refused : (bs : List ℕ) (s : Numbers) (f : Fault) → IsShape bs (s.k ∷ s.n ∷ []) → refused f ≡ shape_checked s.k s.n → LinePrints bs (fault_line f.number)
-shape_refused bs s f is told =
-    shape s.k s.n is (subst (λ o. OutcomePrints (λ _ lines. lines ≡ printed_table s.k s.n) o (fault_line f.number)) told refl)
+pub numbers_refused : (input line : List ℕ) (f : Fault) → answered line ≡ first_line input → ShapeOutcome line (refused f) → Prints input (fault_line f.number)
+numbers_refused input line f is told = line_prints LinePrints input line _ is (numbers_malformed line f _ told refl)
 
-pub shape_printed : (bs : List ℕ) (s : Numbers) (printed : List ℕ) → IsShape bs (s.k ∷ s.n ∷ []) → answered tt ≡ shape_checked s.k s.n → printed ≡ printed_table s.k s.n → LinePrints bs printed
-shape_printed bs s printed is told e =
-    shape s.k s.n is (subst (λ o. OutcomePrints (λ _ lines. lines ≡ printed_table s.k s.n) o printed) told e)
+-- what a shape prints, where opening a table comes to `opened`
+shape_prints : (input line : List ℕ) (s : Numbers) (opened : Outcome (Unit {0})) (printed : List ℕ) → answered line ≡ first_line input → ShapeOutcome line (answered s) → opened ≡ shape_checked s.k s.n → OutcomePrints (λ _ lines. lines ≡ printed_table s.k s.n) opened printed → Prints input printed
+shape_prints input line s opened printed is told same p =
+    line_prints LinePrints input line printed is (shape s.k s.n (numbers_read line s _ told refl) (subst (λ o. OutcomePrints (λ _ lines. lines ≡ printed_table s.k s.n) o printed) same p))
+
+-- the fault with which a table is not opened
+pub shape_refused : (input line : List ℕ) (s : Numbers) (r : Result (Unit {0}) TableFault) (f : Fault) → answered line ≡ first_line input → ShapeOutcome line (answered s) → told (λ done. done) table_fault r ≡ shape_checked s.k s.n → MatchResult r (λ x. ◌≡◌ {A = Result (Unit {0}) Fault} (Err f) (Ok x)) (λ e. IsErrAnd {T = Unit {0}} (Err f) (λ g. g ≡ table_fault e)) → Prints input (fault_line f.number)
+shape_refused input line s (Ok done) f is told same m = absurd (let z : ◌≡◌ {A = ℕ} 0 1 = cc in omega arith)
+shape_refused input line s (Err e) f is told same m =
+    shape_prints input line s _ _ is told same (ap (λ g. fault_line g.number) m)
+
+pub table_printed : (input line : List ℕ) (s : Numbers) (r : Result (Unit {0}) TableFault) (printed : List ℕ) → answered line ≡ first_line input → ShapeOutcome line (answered s) → told (λ done. done) table_fault r ≡ shape_checked s.k s.n → true ≡ is_ok r → printed ≡ printed_table s.k s.n → Prints input printed
+table_printed input line s (Ok done) printed is told same ok e = shape_prints input line s _ _ is told same e
+table_printed input line s (Err f) printed is told same ok e = absurd (false≢true (sym ok))
 
 -- ---- one thing is printed
 

@@ -33,6 +33,7 @@ impl Program for Brackets {
 }
 
 /// The lines of the table whose shape stands in the first line of an input.
+#[tactic(auto, using(crate::proofs::Reports::numbers_refused))]
 fn lines(heap: Global, input: &[u8]) -> Result<Vec<u8>, Stop>
     ensures { MatchResult result (λ lines. Prints input.now lines.items) (StopPrints (Prints input.now)) }
 {

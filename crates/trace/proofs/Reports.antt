@@ -11,6 +11,7 @@ use Rattle.letter_order.specs.Moves.{by_axis}
 use Rattle.letter_order.specs.Orders.{reversed_order}
 use Rattle.letter_order.specs.declared.moves.Move.{Move}
 use Rattle.lyndon.specs.Factoring.{factors}
+use Rattle.lyndon.specs.Words.{joined}
 use Rattle.lyndon.specs.Theorems.{Factorizations}
 use Rattle.lyndon.proofs.Factorization.{few_words}
 use Rattle.text.specs.Input.{first_line, line as line_of}
@@ -20,10 +21,8 @@ use Rattle.trace_text.specs.Traces.{IsTrace, TraceOutcome, AxesFit, further, mov
 use Rattle.trace_text.specs.Traces.TraceOutcome.{long, malformed as stopped, short, read}
 use Rattle.trace_text.proofs.Outcomes.{one_meaning}
 use Rattle.word.specs.Calls.{factor_outcome, starts_of}
+use Rattle.console.proofs.Reports.{front_prints, line_prints, one_prints}
 use Rattle.trace.specs.Printed.{Determined, LinePrints, Prints, Rising, factor_lines, start_lines}
-use Rattle.lyndon.specs.Words.{joined}
-use Rattle.console.specs.Reports.{OutcomePrints}
-use Rattle.console.proofs.Reports.{front_prints, one_prints}
 use Rattle.trace.specs.Printed.LinePrints.{factored, malformed}
 use Rattle.trace.proofs.Lines.{lines_of_words, rising}
 
@@ -37,7 +36,7 @@ module _ {A : Type 0} (ranks : A → A → Ordering) (theory : Factorizations ra
   rising_factors starts n are is =
       rw (are, is) (subst (Rising (starts_of ranks w)) whole (rising 0 (factors ranks w)))
 
-  pub lines_of_factors : (starts : List ℕ) (n : ℕ) → starts ≡ starts_of ranks w → n ≡ length w → start_lines starts n ≡ factor_lines 0 (factors ranks w)
+  lines_of_factors : (starts : List ℕ) (n : ℕ) → starts ≡ starts_of ranks w → n ≡ length w → start_lines starts n ≡ factor_lines 0 (factors ranks w)
   lines_of_factors starts n are is =
       rw (are, is) (ap (start_lines (starts_of ranks w)) (sym whole) ∙ lines_of_words 0 (factors ranks w))
 
@@ -61,7 +60,7 @@ few_moves bs [] f = omega arith
 few_moves bs (m ∷ ms) f =
     omega (arith, further_long ms f.1.1, ap length f.0 ∙ length-append (move_text m) (further ms), decimal_nonempty m.axis (omega arith))
 
-pub trace_read : (bs : List ℕ) (size : ℕ) (ms : List Move) (o : Outcome (List Move)) → TraceOutcome bs size o → o ≡ answered ms → IsTrace bs ms × (length ms ≤ size)
+trace_read : (bs : List ℕ) (size : ℕ) (ms : List Move) (o : Outcome (List Move)) → TraceOutcome bs size o → o ≡ answered ms → IsTrace bs ms × (length ms ≤ size)
 trace_read bs size ms o (long h) e = absurd (let z : ◌≡◌ {A = ℕ} 0 1 = cc in omega arith)
 trace_read bs size ms o (stopped p h s) e = absurd (let z : ◌≡◌ {A = ℕ} 0 1 = cc in omega arith)
 trace_read bs size ms o (short ns h f k) e = absurd (let z : ◌≡◌ {A = ℕ} 0 1 = cc in omega arith)
@@ -79,13 +78,14 @@ line_refused bs size f o (stopped p h s) e few room = let same : found 15 Text p
 line_refused bs size f o (short ms h g k) e few room = absurd (omega (arith, few_moves bs ms g))
 line_refused bs size f o (read ms h g k) e few room = absurd (let z : ◌≡◌ {A = ℕ} 0 1 = cc in omega arith)
 
--- the line of an input prints what the input prints
-pub line_prints : (input line printed : List ℕ) → answered line ≡ first_line input → LinePrints line printed → Prints input printed
-line_prints input line printed is p = subst (λ o. OutcomePrints LinePrints o printed) is p
+pub trace_printed : (input line : List ℕ) (size : ℕ) (ms : List Move) (starts : List ℕ) (n : ℕ) (printed : List ℕ) → Factorizations (reversed_order by_axis) → answered line ≡ first_line input → TraceOutcome line size (answered ms) → starts ≡ starts_of (reversed_order by_axis) ms → n ≡ length ms → printed ≡ start_lines starts n → Prints input printed
+trace_printed input line size ms starts n printed theory is told are many e =
+    let all = e ∙ lines_of_factors (reversed_order by_axis) theory ms starts n are many in
+    line_prints LinePrints input line printed is (subst (LinePrints line) (sym all) (factored ms (trace_read line size ms _ told refl).0))
 
 pub trace_refused : (input line : List ℕ) (size : ℕ) (f : Fault) → answered line ≡ first_line input → TraceOutcome line size (refused f) → size ≡ 1366 → Prints input (fault_line f.number)
 trace_refused input line size f is told room =
-    line_prints input line _ is (line_refused line size f _ told refl (few_bytes input line is) (omega arith))
+    line_prints LinePrints input line _ is (line_refused line size f _ told refl (few_bytes input line is) (omega arith))
 
 -- ---- one thing is printed
 

@@ -36,6 +36,7 @@ impl Program for Trace {
 }
 
 /// A line for each factor of the trace in the first line of an input, under the reversed order.
+#[tactic(auto, using(crate::proofs::Reports::trace_refused, crate::proofs::Reports::factors_fit, crate::proofs::Reports::rising_factors, crate::proofs::Reports::trace_printed))]
 fn lines(heap: Global, input: &[u8]) -> Result<Vec<u8>, Stop>
     ensures { MatchResult result (λ lines. Prints input.now lines.items) (StopPrints (Prints input.now)) }
 {
@@ -73,8 +74,9 @@ fn start_lines(heap: Global, starts: &[u16], end: u16) -> Result<Vec<u8>, AllocE
 fn push_line(lines: &mut Vec<u8>, start: u16, size: u16) -> Result<(), AllocError>
     ensures { OnOk result (lines.new.items ≡ lines.old.items ++ factor_line start size) }
 {
-    let mut line = [0; 16];
+    // (a) lines are put alike: one function for all would ask that a closure may be called, and public ones ask nothing
     // no line of a factor is longer
+    let mut line = [0; 16];
     let count = write_factor_line(start, size, &mut line).unwrap();
     lines.extend_from_slice(&line[..count])
 }
