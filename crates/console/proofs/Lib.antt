@@ -1,1 +1,3 @@
-mod FaultLine
+mod Fronts
+pub mod Lines
+pub mod Reports

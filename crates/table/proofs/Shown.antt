@@ -1,11 +1,11 @@
 -- The lines of the entries of a table.
-use Rattle.std.proofs.Common.{◌≡◌, ℕ, ◌+◌, ◌<◌, ◌≤◌, List, [], ◌++◌, length, get_or, take, drop, Some, None, Option, sym, refl, ap, ◌∙◌, subst, append_assoc, append-nil, arith}
+use Rattle.std.proofs.Common.{◌≡◌, ℕ, ◌<◌, ◌≤◌, List, [], length, get_or, take, Some, None, Option, Ok, Err, Result, IsOk, sym, refl, ap, ◌∙◌, subst, arith}
 use Rattle.std.proofs.ByRecursion.{All-get_or}
-use Rattle.std.proofs.lemmas.List.{drop_all, drop_more, get_or-map, length-map, length-take}
+use Rattle.std.proofs.lemmas.List.{get_or-map, length-map, length-take}
 use Rattle.faults.specs.declared.Fault.{Fault}
 use Rattle.faults.specs.declared.Layer.{Layer}
 use Rattle.faults.specs.declared.Layer.TheVariants as layer
-use Rattle.faults.specs.Outcome.{Outcome, passed_up}
+use Rattle.faults.specs.Outcome.{Outcome, passed_up, told}
 use Rattle.faults.specs.Outcome.Outcome.{answered, refused}
 use Rattle.lyndon.specs.declared.entry.Entry.{Entry}
 use Rattle.lyndon.specs.Entries.{listing, no_entry, word, words}
@@ -17,10 +17,12 @@ use Rattle.coded_word.specs.declared.coded.Cursor.{Cursor}
 use Rattle.bracket_table.specs.Held.{entries_in}
 use Rattle.table_text.specs.Lines.{line_of_entry, line_left, line_outcome}
 use Rattle.bracket_table.proofs.Growing.{few, sound}
-use Rattle.bracket_table.specs.Seen.{dimensions}
+use Rattle.bracket_table.specs.Seen.{dimensions, view}
+use Rattle.bracket_table.specs.Faults.{table_fault}
+use Rattle.bracket_table.specs.declared.Table.{Table}
+use Rattle.bracket_table.specs.declared.fault.TableFault.{TableFault}
 use Rattle.bracket_table.specs.Views.{View}
 use Rattle.table_text.proofs.Lining.{left_at, line_at}
-use Rattle.table.specs.Printed.{entry_lines}
 use Rattle.table.specs.Seen.{line_in}
 use Rattle.table.proofs.Sizes.{entry_line_size}
 
@@ -64,31 +66,25 @@ none_listed : (es : List Entry) (i : ℕ) → es ≡ take (length es) [] → i <
 none_listed es i listed here = omega (arith, ap length listed, length-take {A = Entry} (length es) [])
 
 -- 74 bytes are enough
-pub line_refused : (s : Option Cursor) (es : List Entry) (room : ℕ) → es ≡ take (length es) (entries_in s) → (i : ℕ) → i < length es → (buffer : List ℕ) → length buffer ≡ 74 → (f : Fault) → refused f ≡ line_outcome (seen s es room) i buffer → ⊥
+line_refused : (s : Option Cursor) (es : List Entry) (room : ℕ) → es ≡ take (length es) (entries_in s) → (i : ℕ) → i < length es → (buffer : List ℕ) → length buffer ≡ 74 → (f : Fault) → refused f ≡ line_outcome (seen s es room) i buffer → ⊥
 line_refused None es room listed i here buffer long f told = none_listed es i listed here
 line_refused (Some x) es room listed i here buffer long f told =
     let r = passed_refusal layer.Table f (written (line x es room listed i here) buffer) (told ∙ told_of x es room listed i here buffer) in
     line_fits (line x es room listed i here) buffer r.0 (omega (arith, line_short x es room listed i here)) r.1
 
-pub line_written : (s : Option Cursor) (es : List Entry) (room : ℕ) → es ≡ take (length es) (entries_in s) → (i : ℕ) → i < length es → (buffer : List ℕ) → length buffer ≡ 74 → (size : ℕ) (after : List ℕ) → answered size ≡ line_outcome (seen s es room) i buffer → after ≡ line_left (seen s es room) i buffer → (take size after ≡ line_in (seen s es room) i) × (size ≤ 74)
+line_written : (s : Option Cursor) (es : List Entry) (room : ℕ) → es ≡ take (length es) (entries_in s) → (i : ℕ) → i < length es → (buffer : List ℕ) → length buffer ≡ 74 → (size : ℕ) (after : List ℕ) → answered size ≡ line_outcome (seen s es room) i buffer → after ≡ line_left (seen s es room) i buffer → (take size after ≡ line_in (seen s es room) i) × (size ≤ 74)
 line_written None es room listed i here buffer long size after told is = absurd (none_listed es i listed here)
 line_written (Some x) es room listed i here buffer long size after told is =
     let t = passed_answer layer.Table size (written (line x es room listed i here) buffer) (told ∙ told_of x es room listed i here buffer) in
     let l = line_stands (line x es room listed i here) buffer after size t (is ∙ left_of x es room listed i here buffer) in
     (l.0, omega (arith, l.1))
 
--- ---- the lines of all
+-- the line of an entry of a table
+pub entry_answered : (t : Table) (i : ℕ) (buffer : List ℕ) (r : Result ℕ TableFault) → i < length (view t).entries → length buffer ≡ 74 → told (λ n. n) table_fault r ≡ line_outcome (view t) i buffer → IsOk r
+entry_answered t i buffer (Ok n) here long is = refl
+entry_answered t i buffer (Err e) here long is =
+    absurd (line_refused t.next (view t).entries (view t).room t.listed i here buffer long (table_fault e) is)
 
--- one line more
-pub lines_more : (k i : ℕ) (es : List Entry) (before after all : List ℕ) → i < length es → after ≡ before ++ line_of_entry k i (get_or es i no_entry) → before ++ entry_lines k i (drop i es) ≡ all → after ++ entry_lines k (i + 1) (drop (i + 1) es) ≡ all
-lines_more k i es before after all here put so_far =
-    let line = line_of_entry k i (get_or es i no_entry) in
-    let rest = entry_lines k (i + 1) (drop (i + 1) es) in
-    ap (λ l. l ++ rest) put
-    ∙ (append_assoc before line rest
-    ∙ (ap (λ l. before ++ entry_lines k i l) (sym (drop_more es i no_entry here)) ∙ so_far))
-
--- no entry is left
-pub lines_all : (k i : ℕ) (es : List Entry) (lines all : List ℕ) → length es ≤ i → lines ++ entry_lines k i (drop i es) ≡ all → lines ≡ all
-lines_all k i es lines all past so_far =
-    sym (append-nil lines) ∙ (ap (λ l. lines ++ entry_lines k i l) (sym (drop_all i es past)) ∙ so_far)
+pub entry_in_front : (t : Table) (i : ℕ) (buffer after : List ℕ) (r : Result ℕ TableFault) (n : ℕ) → i < length (view t).entries → length buffer ≡ 74 → told (λ n. n) table_fault r ≡ line_outcome (view t) i buffer → r ≡ Ok n → after ≡ line_left (view t) i buffer → (take n after ≡ line_in (view t) i) × (n ≤ 74)
+entry_in_front t i buffer after r n here long is e stands =
+    line_written t.next (view t).entries (view t).room t.listed i here buffer long n after (subst (λ x. told (λ n. n) table_fault x ≡ line_outcome (view t) i buffer) e is) stands

@@ -1,7 +1,5 @@
 -- What the program prints.
 use Rattle.std.specs.Prelude.{◌≡◌, ℕ, ◌+◌, List, [], ◌∷◌, ◌++◌, length, take}
-use Rattle.faults.specs.Outcome.{Outcome}
-use Rattle.faults.specs.Outcome.Outcome.{answered, refused}
 use Rattle.lyndon.specs.declared.entry.Entry.{Entry}
 use Rattle.lyndon.specs.Entries.{listing}
 use Rattle.text.specs.Input.{first_line}
@@ -10,6 +8,7 @@ use Rattle.text.specs.Reading.{Stops}
 use Rattle.input_text.specs.Shapes.{IsShape}
 use Rattle.table_text.specs.Lines.{line_of_entry}
 use Rattle.bracket_table.specs.Views.{shape_checked}
+use Rattle.console.specs.Reports.{OutcomePrints}
 
 -- the lines of entries over k letters, numbered from i on
 abbrev pub entry_lines : ℕ → ℕ → List Entry → List ℕ
@@ -19,11 +18,6 @@ entry_lines k i (e ∷ es) = line_of_entry k i e ++ entry_lines k (i + 1) es
 -- the shape k, n and how many Lyndon words it has, and then each with its split, in listing order
 abbrev pub printed_table : ℕ → ℕ → List ℕ
 printed_table k n = header_line k n (length (listing k n)) ++ entry_lines k 0 (listing k n)
-
--- for an outcome: of an answer what P says, and of a refusal the line of its fault
-abbrev pub OutcomePrints : {X : Type 0} → (X → List ℕ → Type 0) → Outcome X → List ℕ → Type 0
-OutcomePrints P (answered x) printed = P x printed
-OutcomePrints P (refused f) printed = printed ≡ fault_line f.number
 
 -- for two numbers: the table of the shape, or the fault with which they are refused as one
 abbrev pub ShapePrints : ℕ → ℕ → List ℕ → Type 0

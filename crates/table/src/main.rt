@@ -5,14 +5,10 @@
 mod lines;
 mod report;
 
-use console::{FRONT, read_front};
-use report::report;
+use console::run;
+use report::Brackets;
 use std::io;
-use std::io::Write;
 
 fn main(rt: HostRuntime) -> io::Result<()> {
-    let mut input = [0; FRONT];
-    let count = read_front(&rt, &mut input)?;
-    let lines = report(rt.alloc(), &input[0..count])?;
-    rt.stdout().write_all(lines.as_slice())
+    run(&Brackets, rt.alloc(), rt.stdin(), &mut rt.stdout())
 }

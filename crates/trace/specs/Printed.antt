@@ -1,7 +1,5 @@
 -- What the program prints.
-use Rattle.std.specs.Prelude.{◌≡◌, ℕ, ◌+◌, ◌-◌, List, [], ◌∷◌, ◌++◌, length, take}
-use Rattle.faults.specs.Outcome.{Outcome}
-use Rattle.faults.specs.Outcome.Outcome.{answered, refused}
+use Rattle.std.specs.Prelude.{◌≡◌, ℕ, ◌+◌, ◌-◌, ◌≤◌, List, [], ◌∷◌, ◌++◌, length, take}
 use Rattle.letter_order.specs.Moves.{by_axis}
 use Rattle.letter_order.specs.Orders.{reversed_order}
 use Rattle.letter_order.specs.declared.moves.Move.{Move}
@@ -10,6 +8,7 @@ use Rattle.text.specs.Input.{first_line}
 use Rattle.text.specs.Lines.{factor_line, fault_line}
 use Rattle.text.specs.Reading.{Stops}
 use Rattle.trace_text.specs.Traces.{IsTrace}
+use Rattle.console.specs.Reports.{OutcomePrints}
 
 -- a line for each of the words that stand one behind the other from a place on: its start and its length
 abbrev pub factor_lines : {A : Type 0} → ℕ → List (List A) → List ℕ
@@ -21,13 +20,9 @@ pub data LinePrints (bytes : List ℕ) : List ℕ → Type 0 where
   factored : (ms : List Move) → IsTrace bytes ms → LinePrints bytes (factor_lines 0 (factors (reversed_order by_axis) ms))
   malformed : (p : ℕ) → Stops IsTrace bytes p → LinePrints bytes (fault_line 15)
 
-abbrev pub OutcomePrints : Outcome (List ℕ) → List ℕ → Type 0
-OutcomePrints (answered bytes) printed = LinePrints bytes printed
-OutcomePrints (refused f) printed = printed ≡ fault_line f.number
-
 -- for an input: what its first line prints, or the fault with which that is refused
 abbrev pub Prints : List ℕ → List ℕ → Type 0
-Prints input printed = OutcomePrints (first_line input) printed
+Prints input printed = OutcomePrints LinePrints (first_line input) printed
 
 -- the first 4,097 bytes of an input decide what is printed, and that is one thing
 pub record Determined : Type 0 where
@@ -45,3 +40,8 @@ next_start (s ∷ ss) n = s
 abbrev pub start_lines : List ℕ → ℕ → List ℕ
 start_lines [] n = []
 start_lines (s ∷ ss) n = factor_line s (next_start ss n - s) ++ start_lines ss n
+
+-- none is behind the next
+abbrev pub Rising : List ℕ → ℕ → Type 0
+Rising [] n = Unit {0}
+Rising (s ∷ ss) n = (s ≤ next_start ss n) × Rising ss n
