@@ -1,0 +1,13 @@
+use Rattle.std.proofs.Common.{◌≡◌, ◌-◌, ◌^◌, ◌<◌, ◌++◌, map, length}
+use Rattle.lent_list.specs.Lent.{items, places}
+use Rattle.lyndon.specs.Codes.{spelled}
+use Rattle.table_text.specs.Lines.{symbol}
+use Rattle.table_text.proofs.entry_line.Listed.put_word.Given as goal
+
+-- `rest` spells the other letters
+abbrev pub invariant-loop-i : goal.invariant-loop-i
+invariant-loop-i l =
+    (items l.line ++ map symbol (spelled l.k (l.entry.length - l.i) l.rest) ≡ items l.initial.line ++ map symbol (spelled l.k l.entry.length l.entry.code))
+    × (l.rest < l.k ^ (l.entry.length - l.i))
+    × (length (places l.line) ≡ length (places l.initial.line))
+    × (l.line.memory.ghost_name ≡ l.initial.line.memory.ghost_name)
