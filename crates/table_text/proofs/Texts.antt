@@ -1,5 +1,5 @@
 -- Texts of words.
-use Rattle.std.proofs.Common.{◌≡◌, ℕ, zero, suc, ◌+◌, ◌-◌, ◌*◌, ◌/◌, ◌%◌, ◌^◌, ◌<◌, ◌≤◌, ◌⊎◌, List, [], ◌∷◌, ◌++◌, map, length, get_or, take, drop, set, sym, refl, ap, ◌∙◌, subst, inl, inr, append_assoc, mod-lt, div-lt_iff_lt-mul, one-mul, pow-suc, div-one, arith, length-append}
+use Rattle.std.proofs.Common.{◌≡◌, ℕ, zero, suc, ◌+◌, ◌-◌, ◌*◌, ◌/◌, ◌%◌, ◌^◌, ◌<◌, ◌≤◌, ◌⊎◌, List, [], ◌∷◌, ◌++◌, map, length, get_or, take, drop, set, sym, refl, ap, ◌∙◌, subst, inl, inr, append_assoc, mod-lt, div-lt_iff_lt-mul, one-mul, pow-suc, mul-div_cancel, div-one, arith, length-append}
 use native.Mathlib.Nat.{pow-succ', pow-zero, one-le-pow}
 use Rattle.std.specs.List.{AllByRecursion}
 use Rattle.std.proofs.ByRecursion.{All-get_or}
@@ -95,6 +95,9 @@ module _ (k m i rest : ℕ) (here : i < m) where
 
   pub spelled_more : spelled k (m - i) rest ≡ rest / k ^ (m - 1 - i) ∷ spelled k (m - (i + 1)) (rest % k ^ (m - 1 - i))
   spelled_more = rw next (ap (λ j. spelled k j rest) left)
+
+  pub weight_next : 1 ≤ k → k ^ (m - i) / k ≡ k ^ (m - 1 - i)
+  weight_next some = ap (λ j. k ^ j / k) left ∙ ap (λ w. w / k) (pow-suc k (m - 1 - i)) ∙ mul-div_cancel (k ^ (m - 1 - i)) some
 
   pub letter_small : 1 ≤ k → rest < k ^ (m - i) → rest / k ^ (m - 1 - i) < k
   letter_small some small =

@@ -119,7 +119,7 @@ impl<'a> Listed<'a> {
     }
 
     /// Puts the symbols of its word behind a line.
-    #[tactic(auto, using(crate::proofs::Listed::few_letters, crate::proofs::Listed::coded, crate::proofs::Texts::spelled_more, crate::proofs::Texts::letter_small, crate::proofs::Texts::small_next, coded_word::proofs::Bounds::fits, coded_word::proofs::Bounds::some))]
+    #[tactic(auto, using(crate::proofs::Listed::few_letters, crate::proofs::Listed::coded, crate::proofs::Texts::weight_next, crate::proofs::Texts::letter_small, coded_word::proofs::Bounds::fits, coded_word::proofs::Bounds::some))]
     fn put_word(self, line: &mut LentList<u8>) -> Result<(), Full>
         ensures done { MatchResult result
             (λ _. items line.new ≡ items line.old ++ map symbol (word_at self.entry))
@@ -128,9 +128,10 @@ impl<'a> Listed<'a> {
     {
         let entry = self.entry();
         let k = u16::from(self.shape.k);
+        let mut weight = k.pow(u32::from(entry.length));
         let mut rest = entry.code;
-        for i in 0..entry.length {
-            let weight = k.pow(u32::from(entry.length - 1 - i));
+        for _i in 0..entry.length {
+            weight /= k;
             line.push(symbol_of((rest / weight) as u8))?;
             rest %= weight;
         }

@@ -1,10 +1,8 @@
 -- The first line of an input.
-use Rattle.std.proofs.Common.{◌≡◌, ℕ, zero, suc, ◌+◌, ◌<◌, ◌≤◌, Bool, true, false, cond, eqb, ltb, List, [], ◌∷◌, length, take, sym, refl, ap, ◌∙◌, inl, inr, arith, length-take, unwrap_or, ◌==◌, not}
+use Rattle.std.proofs.Common.{◌≡◌, ℕ, zero, suc, ◌+◌, true, false, cond, eqb, ltb, List, [], ◌∷◌, length, take, refl, ap, arith, length-take, unwrap_or, ◌==◌, not}
 use Rattle.std.proofs.lemmas.Grind.{common_steps}
 use Rattle.std.proofs.lemmas.List.Sums.{prefix_len-le-length, take_while-cons}
 use Rattle.std.specs.List.{position, position_or_len, before_first}
-use Rattle.std.proofs.lemmas.List.{take_all}
-use Rattle.std.proofs.lemmas.Bool.{cases_lt, lt-ltb, cond-true}
 use Rattle.faults.specs.Faults.{found}
 use Rattle.faults.specs.Outcome.Outcome.{answered, refused}
 use Rattle.faults.specs.declared.Layer.TheVariants.{Text}

