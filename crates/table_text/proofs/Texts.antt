@@ -1,20 +1,14 @@
 -- Texts of words.
-use Rattle.std.proofs.Common.{◌≡◌, ℕ, zero, suc, ◌+◌, ◌-◌, ◌*◌, ◌/◌, ◌%◌, ◌^◌, ◌<◌, ◌≤◌, ◌⊎◌, List, [], ◌∷◌, ◌++◌, map, length, get_or, take, drop, set, sym, refl, ap, ◌∙◌, subst, inl, inr, append_assoc, mod-lt, div-lt_iff_lt-mul, one-mul, pow-suc, mul-div_cancel, div-one, arith, length-append}
-use native.Mathlib.Nat.{pow-succ', pow-zero, one-le-pow}
-use Rattle.std.specs.List.{AllByRecursion}
-use Rattle.std.proofs.ByRecursion.{All-get_or}
-use Rattle.std.proofs.lemmas.List.{take_more, take_more_set, drop_more, drop-set-lt, map_push, length-drop, length-map, length-take-le, take_all}
+use Rattle.std.proofs.Common.{◌≡◌, ℕ, zero, suc, ◌+◌, ◌-◌, ◌*◌, ◌/◌, ◌%◌, ◌^◌, ◌<◌, ◌≤◌, ◌⊎◌, List, [], ◌∷◌, ◌++◌, map, length, take, drop, sym, refl, ap, ◌∙◌, inl, inr, mod-lt, div-lt_iff_lt-mul, pow-suc, mul-div_cancel, arith, length-append}
+use native.Mathlib.Nat.{pow-succ', one-le-pow}
+use Rattle.std.proofs.lemmas.List.{length-drop, length-map, length-take-le}
 use Rattle.std.proofs.lemmas.Bool.{cases_lt, lt-ltb, le-ltb}
 use Rattle.letter_order.specs.Orders.{by_value}
-use Rattle.lyndon.specs.declared.entry.Entry.{Entry}
 use Rattle.lyndon.specs.Words.{Split}
 use Rattle.lyndon.specs.Codes.{spelled}
-use Rattle.lyndon.specs.Entries.{cut, listing, word, words, no_entry, Parted}
-use Rattle.lyndon.specs.Listing.{OfShape}
+use Rattle.lyndon.specs.Entries.{cut}
 use Rattle.lyndon.proofs.Codes.{by_value_total, cut_splits, cut_within, length-spelled}
-use Rattle.lyndon.proofs.Entries.{listing_coded, listing_first, listing_parts}
 use Rattle.lyndon.proofs.Theorems.{split_once}
-use Rattle.coded_word.specs.declared.shape.Shape.{Shape}
 use Rattle.table_text.specs.Lines.{symbol, pair, text, text_of, Texts}
 
 -- ---- the text of a word
