@@ -26,3 +26,6 @@ module _ {X : Type 0} (old : List X) where
       (done.1, done.2 ∙ ap (λ l. set l (length w) x) is ∙ over_more w x room ∙ ap (λ l. over l old) (sym done.1))
   put_more w was elements places x Kept (Err e) is room full =
       absurd (omega (arith, full.0, ap length is ∙ length_over w (omega arith)))
+
+-- what filling a list step by step asks for
+pub ruleset fills = (over_front, length_over, over-over)

@@ -1,13 +1,15 @@
 //! The line of an entry.
-ghost use Rattle.std.specs.Prelude.{◌≡◌, ◌+◌, ◌*◌, ◌^◌, ◌<◌, ◌≤◌, map, length, get_or, take, slice_index_or};
+ghost use Rattle.std.specs.Prelude.{◌≡◌, ◌+◌, ◌<◌, [], ◌∷◌, ◌++◌, map, length, take, slice_index_or, MatchOption, MatchResult};
 ghost use Rattle.faults.specs.Outcome.{told};
-ghost use Rattle.lyndon.specs.Entries.{listing, word, no_entry};
+ghost use Rattle.lent_list.specs.Lent.{items, places};
+ghost use Rattle.lyndon.specs.Entries.{listing, no_entry};
 ghost use Rattle.text.specs.Faults.{text_fault};
 ghost use Rattle.text.specs.Lines.{written, left as left_over};
-ghost use Rattle.text.specs.Pieces.{bytes_of, Puts};
-ghost use Rattle.table_text.specs.Lines.{symbol, text_of, part, fields, line_of_entry};
+ghost use Rattle.text.specs.Pieces.{bytes_of};
+ghost use Rattle.table_text.specs.Lines.{symbol, pair, text_of, part, fields, line_of_entry};
 
 use coded_word::Shape;
+use lent_list::{Full, LentList};
 use lyndon::Entry;
 use text::{Piece, TextFault, write_pieces};
 
@@ -21,53 +23,7 @@ fn symbol_of(letter: u8) -> u8
     requires { letter < 16 }
     ensures { result ≡ symbol letter }
 {
-    match letter {
-        0..=9 => b'0' + letter,
-        _ => b'a' + (letter - 10),
-    }
-}
-
-/// Puts the symbols of the word of an entry to the front of a buffer.
-fn put_word(shape: Shape, entry: Entry, buffer: &mut [u8])
-    requires short { entry.length ≤ shape.n }
-    requires coded { entry.code < shape.k ^ entry.length }
-    requires room { entry.length ≤ length buffer.old }
-    ensures { take entry.length buffer.new ≡ map symbol (word shape.k entry) }
-{
-    let k = shape.k as u16;
-    let mut rest = entry.code;
-    for i in 0..entry.length {
-        let weight = k.pow((entry.length - 1 - i) as u32);
-        buffer[i as usize] = symbol_of((rest / weight) as u8);
-        rest %= weight;
-    }
-}
-
-/// Puts the text of an entry into a buffer from a place on, and answers the place behind it.
-fn put_text(
-    shape: Shape,
-    entries: &[Entry],
-    number: usize,
-    buffer: &mut [u8],
-    place: usize,
-) -> usize
-    requires listed { entries.now ≡ take (length entries.now) (listing shape.k shape.n) }
-    requires named { number < length entries.now }
-    requires room { place + 4 * (get_or entries.now number no_entry).length ≤ length buffer.old + 3 }
-    ensures end { result + 3 ≡ place + 4 * (get_or entries.now number no_entry).length }
-    ensures text { Puts place result buffer.old buffer.new (text_of (word shape.k (slice_index_or entries.now number no_entry))) }
-{
-    let entry = entries[number];
-    if entry.length == 1 {
-        buffer[place] = symbol_of(entry.code as u8);
-        return place + 1;
-    }
-    buffer[place] = b'[';
-    let comma = put_text(shape, entries, entry.left as usize, buffer, place + 1);
-    buffer[comma] = b',';
-    let close = put_text(shape, entries, entry.right as usize, buffer, comma + 1);
-    buffer[close] = b']';
-    close + 1
+    char::from_digit(u32::from(letter), 16).unwrap() as u8
 }
 
 /// The number of a part of an entry, which a letter has not.
@@ -77,7 +33,7 @@ fn part_of(entry: Entry, number: u16) -> Piece<'static>
     if entry.length == 1 {
         Piece::Bytes(b"-")
     } else {
-        Piece::Number(number as u64)
+        Piece::Number(u64::from(number))
     }
 }
 
@@ -112,30 +68,116 @@ fn write_fields<'a>(
     )
 }
 
-/// Writes the line of an entry to the front of a buffer.
-#[tactic(auto, using(crate::proofs::Texts::few_letters, crate::proofs::Texts::coded))]
-pub(crate) fn write_line(
-    shape: Shape,
-    entries: &[Entry],
-    number: usize,
-    buffer: &mut [u8],
-) -> Result<usize, TextFault>
-    requires listed { entries.now ≡ take (length entries.now) (listing shape.k shape.n) }
-    requires named { number < length entries.now }
-    ensures outcome { told (λ n. n) text_fault result ≡ written (line_of_entry shape.k number (slice_index_or entries.now number no_entry)) buffer.old }
-    ensures buffer { buffer.new ≡ left_over (line_of_entry shape.k number (slice_index_or entries.now number no_entry)) buffer.old }
-{
-    let entry = entries[number];
-    let mut letters = [0; LETTERS];
-    put_word(shape, entry, &mut letters);
-    let mut text = [0; BYTES];
-    let end = put_text(shape, entries, number, &mut text, 0);
-    write_fields(
-        number,
-        &letters[..entry.length as usize],
-        part_of(entry, entry.left),
-        part_of(entry, entry.right),
-        &text[..end],
-        buffer,
-    )
+/// An entry of a table, by its number.
+#[derive(Clone, Copy)]
+pub(crate) struct Listed<'a> {
+    pub(crate) shape: Shape,
+    pub(crate) entries: &'a [Entry],
+    pub(crate) number: usize,
+    ghost listed: { entries.now ≡ take (length entries.now) (listing shape.k shape.n) },
+    ghost named: { number < length entries.now },
+}
+
+impl<'a> Listed<'a> {
+    ghost use Rattle.table_text.specs.Listed.{entry_at, word_at};
+
+    /// What the table holds of it.
+    fn entry(self) -> Entry
+        ensures { result ≡ entry_at self.entry }
+    {
+        self.entries[self.number]
+    }
+
+    /// Another entry of the table.
+    fn at(self, number: u16) -> Self
+        requires { number < length self.entries.now }
+        ensures entry { entry_at result ≡ slice_index_or self.entry.entries.now number no_entry }
+        ensures shape { result.shape ≡ self.entry.shape }
+    {
+        Listed {
+            shape: self.shape,
+            entries: self.entries,
+            number: usize::from(number),
+        }
+    }
+
+    /// The entries of its two parts, which a letter has not.
+    #[tactic(auto, using(crate::proofs::Listed::letter_code, crate::proofs::Listed::letter_text, crate::proofs::Listed::left_within, crate::proofs::Listed::right_within, crate::proofs::Listed::pair_text, crate::proofs::Listed::shorter))]
+    fn parts(self) -> Option<(Self, Self)>
+        ensures { MatchOption result
+            (((entry_at self.entry).code < 16) × (text_of (word_at self.entry) ≡ symbol (entry_at self.entry).code ∷ []))
+            (λ p. (text_of (word_at self.entry) ≡ pair (text_of (word_at p.0)) (text_of (word_at p.1)))
+            × ((entry_at p.0).length < (entry_at self.entry).length)
+            × ((entry_at p.1).length < (entry_at self.entry).length)) }
+    {
+        let entry = self.entry();
+        if entry.length == 1 {
+            None
+        } else {
+            Some((self.at(entry.left), self.at(entry.right)))
+        }
+    }
+
+    /// Puts the symbols of its word behind a line.
+    #[tactic(auto, using(crate::proofs::Listed::few_letters, crate::proofs::Listed::coded, crate::proofs::Texts::weight_next, crate::proofs::Texts::letter_small, coded_word::proofs::Bounds::fits, coded_word::proofs::Bounds::some))]
+    fn put_word(self, line: &mut LentList<u8>) -> Result<(), Full>
+        ensures done { MatchResult result
+            (λ _. items line.new ≡ items line.old ++ map symbol (word_at self.entry))
+            (λ _. length (places line.old) < length (items line.old) + (entry_at self.entry).length) }
+        ensures lender { line.new.memory.ghost_name ≡ line.old.memory.ghost_name }
+    {
+        let entry = self.entry();
+        let k = u16::from(self.shape.k);
+        let mut weight = k.pow(u32::from(entry.length));
+        let mut rest = entry.code;
+        for _i in 0..entry.length {
+            weight /= k;
+            line.push(symbol_of((rest / weight) as u8))?;
+            rest %= weight;
+        }
+        Ok(())
+    }
+
+    /// Puts its text behind a line.
+    fn put_text(self, line: &mut LentList<u8>) -> Result<(), Full>
+        ensures done { MatchResult result
+            (λ _. (items line.new ≡ items line.old ++ text_of (word_at self.entry))
+            × (length (places line.new) ≡ length (places line.old)))
+            (λ _. length (places line.old) < length (items line.old) + length (text_of (word_at self.entry))) }
+        ensures lender { line.new.memory.ghost_name ≡ line.old.memory.ghost_name }
+    {
+        match self.parts() {
+            None => line.push(symbol_of(self.entry().code as u8)),
+            Some((left, right)) => {
+                line.push(b'[')?;
+                left.put_text(line)?;
+                line.push(b',')?;
+                right.put_text(line)?;
+                line.push(b']')
+            }
+        }
+    }
+
+    /// Writes its line to the front of a buffer.
+    #[tactic(auto, using(crate::proofs::Listed::few_letters, crate::proofs::Listed::text_size))]
+    pub(crate) fn write_line(self, buffer: &mut [u8]) -> Result<usize, TextFault>
+        ensures outcome { told (λ n. n) text_fault result ≡ written (line_of_entry self.entry.shape.k self.entry.number (entry_at self.entry)) buffer.old }
+        ensures buffer { buffer.new ≡ left_over (line_of_entry self.entry.shape.k self.entry.number (entry_at self.entry)) buffer.old }
+    {
+        let entry = self.entry();
+        let mut letters = [0; LETTERS];
+        let mut word = LentList::new(&mut letters);
+        self.put_word(&mut word)?;
+        let mut bytes = [0; BYTES];
+        let mut text = LentList::new(&mut bytes);
+        self.put_text(&mut text)?;
+        write_fields(
+            self.number,
+            word.items(),
+            part_of(entry, entry.left),
+            part_of(entry, entry.right),
+            text.items(),
+            buffer,
+        )
+    }
 }

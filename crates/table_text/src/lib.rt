@@ -11,7 +11,7 @@ ghost use Rattle.table_text.specs.Lines.{line_outcome, line_left, Texts};
 mod entry_line;
 
 use bracket_table::{Table, TableFault};
-use entry_line::write_line;
+use entry_line::Listed;
 
 /// Writes number, word, left, right and text of an entry to the front of a buffer, with a space between and a line
 /// feed behind. Answers how many bytes were written. A refused call leaves the buffer as it was.
@@ -26,6 +26,11 @@ pub fn line(table: &mut Table, number: usize, buffer: &mut [u8]) -> Result<usize
     if number >= entries.len() {
         return Err(TableFault::NoEntry);
     }
-    let written = write_line(shape, entries, number, buffer)?;
+    let entry = Listed {
+        shape,
+        entries,
+        number,
+    };
+    let written = entry.write_line(buffer)?;
     Ok(written)
 }

@@ -1,7 +1,8 @@
 -- The first line of an input.
-use Rattle.std.proofs.Common.{◌≡◌, ℕ, zero, suc, ◌+◌, ◌<◌, ◌≤◌, true, false, cond, eqb, ltb, List, [], ◌∷◌, ◌++◌, length, get_or, take, drop, sym, refl, ap, ◌∙◌, inl, inr, arith, length-take}
-use Rattle.std.proofs.lemmas.List.{append_assoc, append-nil, drop_all, drop_more, length-take-le, take_all, take_more}
-use Rattle.std.proofs.lemmas.Bool.{cases_lt, lt-ltb, cond-false, cond-true, eq-eqb, ne_eqb}
+use Rattle.std.proofs.Common.{◌≡◌, ℕ, zero, suc, ◌+◌, true, false, cond, eqb, ltb, List, [], ◌∷◌, length, take, refl, ap, arith, length-take, unwrap_or, ◌==◌, not}
+use Rattle.std.proofs.lemmas.Grind.{common_steps}
+use Rattle.std.proofs.lemmas.List.Sums.{prefix_len-le-length, take_while-cons}
+use Rattle.std.specs.List.{position, position_or_len, before_first}
 use Rattle.faults.specs.Faults.{found}
 use Rattle.faults.specs.Outcome.Outcome.{answered, refused}
 use Rattle.faults.specs.declared.Layer.TheVariants.{Text}
@@ -21,35 +22,22 @@ module _ {X : Type 0} (no : X) (yes : List ℕ → X) (n : ℕ) where
   limited bs = cond (ltb n (length (line bs))) no (yes (line bs))
 
   decided : (bs : List ℕ) → limited (take (n + 1) bs) ≡ limited bs
-  decided bs =
-      elim (cases_lt n (length (line bs))) [
-        | inl h ↦
-            let k : n < length (line (take (n + 1) bs)) = rw (line_take (n + 1) bs, length-take) (omega arith) in
-            cond-true (ltb n (length (line (take (n + 1) bs)))) no (yes (line (take (n + 1) bs))) (lt-ltb n _ k)
-            ∙ sym (cond-true (ltb n (length (line bs))) no (yes (line bs)) (lt-ltb n _ h))
-        | inr h ↦ ap (λ l. cond (ltb n (length l)) no (yes l)) (line_take (n + 1) bs ∙ take_all (n + 1) (line bs) (omega arith))
-      ]
+  decided bs = let front = line_take (n + 1) bs in rw front (grind (arith, common_steps))
 
 pub front_decides : FrontDecides
 unfolding FrontDecides
 front_decides = decided (refused (found 14 Text 0 0)) answered 4096
 
--- a byte that is no line feed, and one that is
-pub line_more : (bs : List ℕ) (i : ℕ) → i < length bs → take i bs ++ line (drop i bs) ≡ line bs → (get_or bs i 0 ≡ 10 → ⊥) → take (i + 1) bs ++ line (drop (i + 1) bs) ≡ line bs
-line_more bs i h so_far other =
-    let c = get_or bs i 0 in
-    let rest : line (drop i bs) ≡ c ∷ line (drop (i + 1) bs) = ap line (drop_more bs i 0 h) ∙ cond-false (eqb c 10) [] _ (ne_eqb c 10 other) in
-    rw (take_more bs i 0 h, append_assoc, ← rest) so_far
+-- it is what stands before the first line feed
+line_is : (bs : List ℕ) → line bs ≡ before_first (λ c. c == 10) bs
+line_is [] = refl
+line_is (c ∷ bs) = let more = take_while-cons (λ x. not (x == 10)) c bs in grind (arith, common_steps, line_is bs)
 
-pub line_here : (bs : List ℕ) (i : ℕ) → i < length bs → take i bs ++ line (drop i bs) ≡ line bs → get_or bs i 0 ≡ 10 → take i bs ≡ line bs
-line_here bs i h so_far feed =
-    let c = get_or bs i 0 in
-    let rest : line (drop i bs) ≡ [] = ap line (drop_more bs i 0 h) ∙ cond-true (eqb c 10) [] _ (eq-eqb c 10 feed) in
-    rw (rest, append-nil) at so_far
+line_size : (bs : List ℕ) → length (line bs) ≡ position_or_len (λ c. c == 10) bs
+line_size bs = let most = prefix_len-le-length (λ c. not (c == 10)) bs in rw line_is (simp length-take (omega arith))
 
-pub line_all : (bs : List ℕ) (i : ℕ) → length bs ≤ i → take i bs ++ line (drop i bs) ≡ line bs → take (length bs) bs ≡ line bs
-line_all bs i h so_far =
-    rw (take_all (length bs) bs (omega arith)) (rw (drop_all i bs h, append-nil, take_all i bs h) at so_far)
+pub line_end : (bs : List ℕ) → unwrap_or (position (λ c. c == 10) bs) (length bs) ≡ length (line bs)
+line_end bs = let most = prefix_len-le-length (λ c. not (c == 10)) bs in rw line_size (grind (arith, common_steps))
 
-pub line_size : (bs : List ℕ) (n : ℕ) → take n bs ≡ line bs → n ≤ length bs → n ≡ length (line bs)
-line_size bs n e within = sym (length-take-le n bs within) ∙ ap length e
+pub line_front : (bs : List ℕ) → take (length (line bs)) bs ≡ line bs
+line_front bs = rw (line_size, line_is)

@@ -1,9 +1,10 @@
 //! Why a call on texts is refused.
 ghost use Rattle.std.specs.Prelude.{◌≡◌};
 ghost use Rattle.text.specs.Faults.{text_fault};
-ghost use Rattle.text.specs.declared.fault.TextFault.TheVariants.{Word};
+ghost use Rattle.text.specs.declared.fault.TextFault.TheVariants.{ShortBuffer, Word};
 
 use faults::{Fault, Layer};
+use lent_list::Full;
 use word::WordFault;
 
 #[derive(Clone, Copy, PartialEq, Eq, Debug)]
@@ -35,7 +36,16 @@ impl From<TextFault> for Fault {
 impl From<WordFault> for TextFault {
     ghost from_gives = { λ below r. r ≡ Word below };
 
-    fn from(below: WordFault) -> TextFault {
-        TextFault::Word(below)
+    fn from(below: WordFault) -> Self {
+        Self::Word(below)
+    }
+}
+
+/// What is written into is a list over a buffer.
+impl From<Full> for TextFault {
+    ghost from_gives = { λ _ r. r ≡ ShortBuffer };
+
+    fn from(_: Full) -> Self {
+        Self::ShortBuffer
     }
 }

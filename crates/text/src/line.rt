@@ -4,6 +4,8 @@ ghost use Rattle.faults.specs.Outcome.{told};
 ghost use Rattle.text.specs.Faults.{text_fault};
 ghost use Rattle.text.specs.Lines.{factor_line, fault_line, header_line, written, left};
 
+// The separators stand among the pieces of each line: one list says all of its bytes, and `write_pieces` serves
+// each line, those of `table_text` too.
 mod piece;
 
 pub use self::piece::{Piece, write_pieces};
@@ -15,8 +17,8 @@ pub fn write_factor_line(start: u16, length: u16, buffer: &mut [u8]) -> Result<u
     ensures outcome { told (λ n. n) text_fault result ≡ written (factor_line start length) buffer.old }
     ensures buffer { buffer.new ≡ left (factor_line start length) buffer.old }
 {
-    let start = Piece::Number(start as u64);
-    let length = Piece::Number(length as u64);
+    let start = Piece::Number(u64::from(start));
+    let length = Piece::Number(u64::from(length));
     write_pieces(
         &[start, Piece::Bytes(b" "), length, Piece::Bytes(b"\n")],
         buffer,
@@ -29,7 +31,7 @@ pub fn write_fault_line(number: u8, buffer: &mut [u8]) -> Result<usize, TextFaul
     ensures outcome { told (λ n. n) text_fault result ≡ written (fault_line number) buffer.old }
     ensures buffer { buffer.new ≡ left (fault_line number) buffer.old }
 {
-    let number = Piece::Number(number as u64);
+    let number = Piece::Number(u64::from(number));
     write_pieces(
         &[Piece::Bytes(b"fault "), number, Piece::Bytes(b"\n")],
         buffer,

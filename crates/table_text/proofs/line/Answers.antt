@@ -19,8 +19,8 @@ returns-then-number-entries c =
     let l = line_past (view c.args.table.now) c.in_ok-shape.shape c.in_ok-shape.ensures.shape c.entries-entries.result.now c.entries-entries.ensures c.args.number c.args.buffer.now c.if-number-entries.true in
     record { outcome = l.0; buffer = l.1; same = refl; texts = texts }
 
-pub write_line-requires : goal.write_line-requires
-write_line-requires c =
+pub invariant_of-entry : goal.invariant_of-entry
+invariant_of-entry c =
     record { listed = rows_listed (view c.args.table.now) c.in_ok-shape.shape c.in_ok-shape.ensures.shape c.entries-entries.result.now c.entries-entries.ensures c.args.number c.args.buffer.now c.in_ok-shape.ensures.sound; named = c.if-number-entries.false }
 
 pub returns-in_err-written : goal.returns-in_err-written

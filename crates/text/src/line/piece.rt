@@ -1,11 +1,14 @@
-//! The pieces of a line, put into a buffer one behind another.
-ghost use Rattle.std.specs.Prelude.{◌≡◌, ◌+◌, ◌≤◌, length, decimal};
+//! The pieces of a line, put one behind another.
+ghost use Rattle.std.specs.Prelude.{◌≡◌, ◌+◌, ◌<◌, ◌≤◌, ◌++◌, length, MatchBool, MatchResult};
 ghost use Rattle.faults.specs.Outcome.{told};
+ghost use Rattle.lent_list.specs.Lent.{items, places, over};
 ghost use Rattle.text.specs.Faults.{text_fault};
 ghost use Rattle.text.specs.Lines.{written, left};
-ghost use Rattle.text.specs.Pieces.{bytes_of, bytes_of_all, Puts};
+ghost use Rattle.text.specs.Pieces.{bytes_of, bytes_of_all};
 
 use crate::fault::TextFault;
+use itoa::Buffer;
+use lent_list::{Full, LentList};
 
 /// A piece of a line.
 #[derive(Clone, Copy)]
@@ -16,62 +19,65 @@ pub enum Piece<'a> {
     Number(u64),
 }
 
-/// How many digits a number has in decimal.
-fn decimal_length(n: u64) -> usize
-    ensures value { result ≡ length (decimal n) }
-    ensures bound { result ≤ 20 }
-{
-    if n < 10 {
-        1
-    } else {
-        decimal_length(n / 10) + 1
-    }
-}
-
-/// Puts bytes into a buffer from a place on, and answers the place behind them.
-fn put_bytes(bytes: &[u8], buffer: &mut [u8], place: usize) -> usize
-    requires { place + length bytes.now ≤ length buffer.old }
-    ensures { Puts place result buffer.old buffer.new bytes.now }
-{
-    let end = place + bytes.len();
-    buffer[place..end].copy_from_slice(bytes);
-    end
-}
-
-/// Puts a number in decimal into a buffer from a place on, and answers the place behind it.
-fn put_decimal(n: u64, buffer: &mut [u8], place: usize) -> usize
-    requires { place + length (decimal n) ≤ length buffer.old }
-    ensures { Puts place result buffer.old buffer.new (decimal n) }
-{
-    let digit = [b'0' + (n % 10) as u8];
-    if n < 10 {
-        return put_bytes(&digit, buffer, place);
-    }
-    let last = put_decimal(n / 10, buffer, place);
-    put_bytes(&digit, buffer, last)
-}
-
 impl<'a> Piece<'a> {
+    // One method for the bytes, with one buffer for the digits of all numbers, would serve `size` and `put`; but with it
+    // the whole table of `2 12` took 8 percent longer to print.
     /// How many bytes it has.
     fn size(self) -> usize
         ensures { result ≡ length (bytes_of self.entry) }
     {
         match self {
             Piece::Bytes(bytes) => bytes.len(),
-            Piece::Number(n) => decimal_length(n),
+            Piece::Number(n) => Buffer::new().format(n).len(),
         }
     }
 
-    /// Puts it into a buffer from a place on, and answers the place behind it.
-    fn put(self, buffer: &mut [u8], place: usize) -> usize
-        requires { place + length (bytes_of self) ≤ length buffer.old }
-        ensures { Puts place result buffer.old buffer.new (bytes_of self.entry) }
+    /// Puts it behind the bytes of a line.
+    fn put(self, line: &mut LentList<u8>) -> Result<(), Full>
+        ensures done { MatchResult result
+            (λ _. (length (items line.old) + length (bytes_of self.entry) ≤ length (places line.old))
+            × (items line.new ≡ items line.old ++ bytes_of self.entry)
+            × (places line.new ≡ over (items line.old ++ bytes_of self.entry) (places line.old)))
+            (λ _. length (places line.old) < length (items line.old) + length (bytes_of self.entry)) }
+        ensures lender { line.new.memory.ghost_name ≡ line.old.memory.ghost_name }
     {
         match self {
-            Piece::Bytes(bytes) => put_bytes(bytes, buffer, place),
-            Piece::Number(n) => put_decimal(n, buffer, place),
+            Piece::Bytes(bytes) => line.extend_from_slice(bytes),
+            Piece::Number(n) => line.extend_from_slice(Buffer::new().format(n).as_bytes()),
         }
     }
+}
+
+/// Whether so many places are enough for all of the pieces.
+fn have_room(pieces: &[Piece], places: usize) -> bool
+    ensures { MatchBool result
+        (length (bytes_of_all pieces.now) ≤ places)
+        (places < length (bytes_of_all pieces.now)) }
+{
+    let mut room = places;
+    for piece in pieces {
+        match room.checked_sub(piece.size()) {
+            Some(rest) => room = rest,
+            None => return false,
+        }
+    }
+    true
+}
+
+#[tactic(auto, using(crate::proofs::Putting::no_room))]
+/// Puts all of the pieces behind the bytes of a line.
+fn put_all(pieces: &[Piece], line: &mut LentList<u8>) -> Result<(), Full>
+    ensures done { MatchResult result
+        (λ _. (length (items line.old) + length (bytes_of_all pieces.now) ≤ length (places line.old))
+        × (items line.new ≡ items line.old ++ bytes_of_all pieces.now)
+        × (places line.new ≡ over (items line.old ++ bytes_of_all pieces.now) (places line.old)))
+        (λ _. length (places line.old) < length (items line.old) + length (bytes_of_all pieces.now)) }
+    ensures lender { line.new.memory.ghost_name ≡ line.old.memory.ghost_name }
+{
+    for piece in pieces {
+        piece.put(line)?;
+    }
+    Ok(())
 }
 
 /// Writes the pieces of a line to the front of a buffer, and answers how many bytes they have.
@@ -80,17 +86,10 @@ pub fn write_pieces(pieces: &[Piece], buffer: &mut [u8]) -> Result<usize, TextFa
     ensures outcome { told (λ n. n) text_fault result ≡ written (bytes_of_all pieces.now) buffer.old }
     ensures buffer { buffer.new ≡ left (bytes_of_all pieces.now) buffer.old }
 {
-    let mut room = buffer.len();
-    for piece in pieces {
-        let size = piece.size();
-        if size > room {
-            return Err(TextFault::ShortBuffer);
-        }
-        room -= size;
+    if !have_room(pieces, buffer.len()) {
+        return Err(TextFault::ShortBuffer);
     }
-    let mut place = 0;
-    for piece in pieces {
-        place = piece.put(buffer, place);
-    }
-    Ok(place)
+    let mut line = LentList::new(buffer);
+    put_all(pieces, &mut line)?;
+    Ok(line.count())
 }

@@ -1,6 +1,0 @@
-use Rattle.std.proofs.Common.{get_or}
-use Rattle.lyndon.specs.Entries.{no_entry}
-use Rattle.table_text.proofs.entry_line.+put_text.Given as goal
-
-abbrev pub decreases-put_text : goal.decreases-put_text
-decreases-put_text l = (get_or l.entries.now l.number no_entry).length
