@@ -1,7 +1,7 @@
 //! The line of an entry.
 ghost use Rattle.std.specs.Prelude.{◌≡◌, ◌+◌, ◌<◌, [], ◌∷◌, ◌++◌, map, length, take, slice_index_or, MatchOption, MatchResult};
 ghost use Rattle.faults.specs.Outcome.{told};
-ghost use Rattle.lent_list.specs.Lent.{items, places};
+ghost use Rattle.lent_list.specs.Lent.{items, places, SameMemory};
 ghost use Rattle.lyndon.specs.Entries.{listing, no_entry};
 ghost use Rattle.text.specs.Faults.{text_fault};
 ghost use Rattle.text.specs.Lines.{written, left as left_over};
@@ -124,7 +124,7 @@ impl<'a> Listed<'a> {
         ensures done { MatchResult result
             (λ _. items line.new ≡ items line.old ++ map symbol (word_at self.entry))
             (λ _. length (places line.old) < length (items line.old) + (entry_at self.entry).length) }
-        ensures lender { line.new.memory.ghost_name ≡ line.old.memory.ghost_name }
+        ensures lender { SameMemory line.old line.new }
     {
         let entry = self.entry();
         let k = u16::from(self.shape.k);
@@ -144,7 +144,7 @@ impl<'a> Listed<'a> {
             (λ _. (items line.new ≡ items line.old ++ text_of (word_at self.entry))
             × (length (places line.new) ≡ length (places line.old)))
             (λ _. length (places line.old) < length (items line.old) + length (text_of (word_at self.entry))) }
-        ensures lender { line.new.memory.ghost_name ≡ line.old.memory.ghost_name }
+        ensures lender { SameMemory line.old line.new }
     {
         match self.parts() {
             None => line.push(symbol_of(self.entry().code as u8)),

@@ -1,7 +1,7 @@
 //! Reading a trace: its marks one by one, in a state that says what may follow.
 ghost use Rattle.std.specs.Prelude.{◌≡◌, ◌+◌, ◌<◌, ◌≤◌, ◌⊎◌, ◌^◌, List, [], ◌∷◌, length, IfOk, Some, Ok, Decides, MatchResult};
 ghost use Rattle.faults.specs.Outcome.{told};
-ghost use Rattle.lent_list.specs.Lent.{places, items, over};
+ghost use Rattle.lent_list.specs.Lent.{places, items, over, SameMemory};
 ghost use Rattle.text.specs.Faults.{text_fault};
 ghost use Rattle.text.specs.Digits.{AllDigits};
 ghost use Rattle.trace_text.specs.Tokens.{Marked};
@@ -159,7 +159,7 @@ fn fill(text: &[u8], moves: &mut LentList<Move>) -> Result<(), TextFault>
     ensures moves { IsTrace text.now (items moves.new) }
     ensures within { length (items moves.new) ≤ length (places moves.old) }
     ensures memory { places moves.new ≡ over (items moves.new) (places moves.old) }
-    ensures lender { moves.new.memory.ghost_name ≡ moves.old.memory.ghost_name }
+    ensures lender { SameMemory moves.old moves.new }
 {
     moves.clear();
     for next in Reader::new(text) {
@@ -175,7 +175,7 @@ pub fn read_trace(text: &[u8], moves: &mut LentList<Move>) -> Result<usize, Text
     ensures outcome { TraceOutcome text.now (length (places moves.old)) (told (λ _. items moves.new) text_fault result) }
     ensures count { IfOk result (λ n. n ≡ length (items moves.new)) }
     ensures memory { MatchResult result (λ _. places moves.new ≡ over (items moves.new) (places moves.old)) (λ _. moves.new ≡ moves.old) }
-    ensures lender { moves.new.memory.ghost_name ≡ moves.old.memory.ghost_name }
+    ensures lender { SameMemory moves.old moves.new }
     ensures one { OneOutcome }
 {
     if text.len() > LONGEST {

@@ -1,7 +1,7 @@
 //! The factors of a word.
 ghost use Rattle.std.specs.Prelude.{◌≡◌, ◌+◌, ◌*◌, ◌<◌, ◌≤◌, ◌++◌, length, MatchResult, nat_le};
 ghost use Rattle.faults.specs.Outcome.{told};
-ghost use Rattle.lent_list.specs.Lent.{items, places, over};
+ghost use Rattle.lent_list.specs.Lent.{items, places, over, SameMemory};
 ghost use Rattle.lyndon.specs.Factoring.{factors};
 ghost use Rattle.lyndon.specs.Theorems.{Factorizations};
 ghost use Rattle.word.specs.Calls.{shown, cut_behind, first_outcome, factor_outcome, starts_of, paced};
@@ -36,7 +36,7 @@ pub fn factor<L, O: Order<L>>(
         (λ _. (items starts.new ≡ starts_of (O.ranks order.now) word.now)
         × (places starts.new ≡ over (starts_of (O.ranks order.now) word.now) (places starts.old)))
         (λ _. starts.new ≡ starts.old) }
-    ensures lender { starts.new.memory.ghost_name ≡ starts.old.memory.ghost_name }
+    ensures lender { SameMemory starts.old starts.new }
     ensures factorizations { Factorizations (O.ranks order.now) }
 {
     check_longest(word.len())?;
@@ -75,7 +75,7 @@ fn push_starts(starts: &mut LentList<u16>, from: usize, run: Run)
     requires room { length (items starts.old) + run.count ≤ length (places starts.old) }
     ensures items { items starts.new ≡ items starts.old ++ paced from run.period run.count }
     ensures places { places starts.new ≡ over (items starts.new) (places starts.old) }
-    ensures lender { starts.new.memory.ghost_name ≡ starts.old.memory.ghost_name }
+    ensures lender { SameMemory starts.old starts.new }
 {
     // by a number and not by `step_by`, which would ask that a period is not 0, and says no more
     for i in 0..run.count {
@@ -91,7 +91,7 @@ fn list_starts<L, O: Order<L>>(order: &O, word: &[L], starts: &mut LentList<u16>
     ensures count { result ≡ length (factors (O.ranks order.now) word.now) }
     ensures items { items starts.new ≡ starts_of (O.ranks order.now) word.now }
     ensures places { places starts.new ≡ over (starts_of (O.ranks order.now) word.now) (places starts.old) }
-    ensures lender { starts.new.memory.ghost_name ≡ starts.old.memory.ghost_name }
+    ensures lender { SameMemory starts.old starts.new }
 {
     starts.clear();
     for (from, run) in Runs::of(order, word) {
