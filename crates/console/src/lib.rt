@@ -86,7 +86,7 @@ impl From<AllocError> for Stop {
 pub fn fault_report(heap: Global, number: u8) -> Result<Vec<u8>, AllocError>
     ensures { IfOk result (λ lines. lines.items ≡ fault_line number) }
 {
-    // (a) lines are put alike: one function for all would ask that a closure may be called, and public ones ask nothing
+    // lines are put alike: one public function for all would ask that a closure may be called, and public ones ask nothing
     // no line of a fault is longer
     let mut line = [0; 16];
     let count = write_fault_line(number, &mut line).unwrap();

@@ -48,7 +48,7 @@ fn grow_all(table: &mut Table)
 fn push_header(lines: &mut Vec<u8>, numbers: Numbers, count: usize) -> Result<(), AllocError>
     ensures { OnOk result (lines.new.items ≡ lines.old.items ++ header_line numbers.k numbers.n count) }
 {
-    // (a) lines are put alike: one function for all would ask that a closure may be called, and public ones ask nothing
+    // lines are put alike: one public function for all would ask that a closure may be called, and public ones ask nothing
     // no header is longer
     let mut line = [0; 32];
     let count = write_header_line(numbers.k as u64, numbers.n as u64, count, &mut line).unwrap();
@@ -72,7 +72,7 @@ fn push_line(lines: &mut Vec<u8>, table: &mut Table, number: usize) -> Result<()
     ensures lines { OnOk result (lines.new.items ≡ lines.old.items ++ line_in (view table.old) number) }
     ensures same { table.new ≡ table.old }
 {
-    // (a) lines are put alike: one function for all would ask that a closure may be called, and public ones ask nothing
+    // lines are put alike: one public function for all would ask that a closure may be called, and public ones ask nothing
     let mut buffer = [0; LONGEST];
     // an entry has this number, and its line is no longer
     let count = line(table, number, &mut buffer).unwrap();

@@ -74,7 +74,7 @@ fn start_lines(heap: Global, starts: &[u16], end: u16) -> Result<Vec<u8>, AllocE
 fn push_line(lines: &mut Vec<u8>, start: u16, size: u16) -> Result<(), AllocError>
     ensures { OnOk result (lines.new.items ≡ lines.old.items ++ factor_line start size) }
 {
-    // (a) lines are put alike: one function for all would ask that a closure may be called, and public ones ask nothing
+    // lines are put alike: one public function for all would ask that a closure may be called, and public ones ask nothing
     // no line of a factor is longer
     let mut line = [0; 16];
     let count = write_factor_line(start, size, &mut line).unwrap();
