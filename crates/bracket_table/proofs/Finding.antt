@@ -1,9 +1,9 @@
 -- What a find answers, over plain values.
-use Rattle.std.proofs.Common.{◌≡◌, ℕ, suc, ◌+◌, ◌^◌, ◌<◌, ◌≤◌, Bool, true, false, cond, ◌&&◌, eqb, ltb, ◌⊎◌, List, [], ◌∷◌, length, take, Some, None, Option, Ordering, Less, Equal, Greater, sym, refl, ap, ◌∙◌, subst, inl, inr, add-zero, zero-add, arith}
+use Rattle.std.proofs.Common.{◌≡◌, ℕ, suc, ◌^◌, ◌<◌, ◌≤◌, Bool, true, false, cond, ◌&&◌, eqb, ◌⊎◌, List, [], ◌∷◌, length, take, Some, Option, Ordering, Less, Equal, Greater, sym, refl, ap, ◌∙◌, subst, inl, inr, add-one, arith}
 use borrow.Author.Tests.{clash}
 use Rattle.std.specs.Ordering.{is_eq}
-use Rattle.std.specs.List.{AllByRecursion}
-use Rattle.std.proofs.lemmas.Bool.{cases_Bool, cases_lt, and_from, and_parts, eq-eqb, eqb-true, both_ways, lt-ltb, le-ltb}
+use Rattle.std.specs.List.{AllByRecursion, position_from}
+use Rattle.std.proofs.lemmas.Bool.{cases_Bool, and_from, and_parts, eq-eqb, eqb-true, both_ways}
 use Rattle.faults.specs.declared.Layer.TheVariants as layer
 use Rattle.faults.specs.declared.Fault.{Fault}
 use Rattle.faults.specs.declared.Layer.{Layer}
@@ -24,8 +24,10 @@ use Rattle.lyndon.proofs.Entries.{listing_coded}
 use Rattle.word.specs.Faults.{letters_checked, length_checked}
 use Rattle.bracket_table.specs.Calls.{found_from, find_outcome}
 use Rattle.bracket_table.specs.Held.{entries_in}
-use Rattle.bracket_table.specs.Search.{spot, below}
-use Rattle.bracket_table.specs.Seen.{dimensions}
+use Rattle.bracket_table.specs.Search.{has, spot}
+use Rattle.bracket_table.specs.Seen.{dimensions, view}
+use Rattle.bracket_table.specs.declared.Table.{Table}
+use Rattle.lent_list.specs.Lent.{items, places}
 use Rattle.bracket_table.specs.Views.{View}
 use Rattle.bracket_table.proofs.Growing.{known}
 
@@ -62,30 +64,9 @@ module _ (k : ℕ) (some : 1 ≤ k) (w : List ℕ) (over : Over k w) where
           miss (inl q) = absurd (both_ways test t (hit q))
           miss (inr q) = q ∙ sym t
 
-  found_spot : (es : List Entry) → AllByRecursion (λ e. e.code < k ^ e.length) es → (i : ℕ) → found_from i (words k es) w ≡ cond (ltb (spot es (length w) (code k w)) (length es)) (Some (i + spot es (length w) (code k w))) None
+  found_spot : (es : List Entry) → AllByRecursion (λ e. e.code < k ^ e.length) es → (i : ℕ) → position_from (has (length w) (code k w)) i es ≡ found_from i (words k es) w
   found_spot [] a i = refl
-  found_spot (e ∷ es) a i = go (cases_Bool (eqb e.length (length w) && eqb e.code (code k w))) (cases_lt (spot es (length w) (code k w)) (length es)) (found_spot es a.1 (suc i))
-    where
-      m : ℕ
-      m = length w
-
-      c : ℕ
-      c = code k w
-
-      here : is_eq (dictionary by_value (word k e) w) ≡ (eqb e.length (length w) && eqb e.code (code k w))
-      here = same_word e a.0
-
-      go : ((eqb e.length (length w) && eqb e.code (code k w)) ≡ true) ⊎ ((eqb e.length (length w) && eqb e.code (code k w)) ≡ false) → (spot es (length w) (code k w) < length es) ⊎ (length es ≤ spot es (length w) (code k w)) → found_from (suc i) (words k es) w ≡ cond (ltb (spot es (length w) (code k w)) (length es)) (Some (suc i + spot es (length w) (code k w))) None → found_from i (words k (e ∷ es)) w ≡ cond (ltb (spot (e ∷ es) (length w) (code k w)) (length (e ∷ es))) (Some (i + spot (e ∷ es) (length w) (code k w))) None
-      go (inl t) l more = rw (here, t, lt-ltb 0 (suc (length es)) (omega arith), add-zero i)
-      go (inr t) (inl l) more =
-          let n : suc i + spot es (length w) (code k w) ≡ i + suc (spot es (length w) (code k w)) = omega arith in
-          rw (here, t, more, lt-ltb (spot es (length w) (code k w)) (length es) l, lt-ltb (suc (spot es (length w) (code k w))) (suc (length es)) (omega arith), n)
-      go (inr t) (inr l) more =
-          rw (here, t, more, le-ltb (spot es (length w) (code k w)) (length es) l, le-ltb (suc (spot es (length w) (code k w))) (suc (length es)) (omega arith))
-
-  pub found_at : (es : List Entry) → AllByRecursion (λ e. e.code < k ^ e.length) es → below (spot es (length w) (code k w)) (length es) ≡ found_from 0 (words k es) w
-  found_at es a =
-      sym (found_spot es a 0 ∙ ap (λ i. cond (ltb (spot es (length w) (code k w)) (length es)) (Some i) None) (zero-add (spot es (length w) (code k w))))
+  found_spot (e ∷ es) a i = rw (same_word e a.0, add-one) (ap (cond (has (length w) (code k w) e) (Some i)) (found_spot es a.1 (suc i)))
 
 -- what reading a word comes to, passed up
 module _ {X Y : Type 0} (y : X) (z : Y) where
@@ -108,9 +89,12 @@ module _ (s : Option Cursor) (x : Cursor) (is : s ≡ Some x) (es : List Entry) 
       rw is (refused_both (length w, code x.shape.k w) (found_from 0 (words x.shape.k es) w) layer.Table (length_checked x.shape.n (length w)) (letters_checked x.shape.k w) f told)
 
   -- a search for the word of m letters with the code c
-  pub find_answers : es ≡ take (length es) (entries_in s) → (m c : ℕ) → answered (m, c) ≡ read_outcome x.shape.k x.shape.n w → answered (below (spot es m c) (length es)) ≡ find_outcome seen w
+  pub find_answers : es ≡ take (length es) (entries_in s) → (m c : ℕ) → answered (m, c) ≡ read_outcome x.shape.k x.shape.n w → answered (spot es m c) ≡ find_outcome seen w
   find_answers listed m c told =
       let p = passed_both (length w, code x.shape.k w) (length w) (length_checked x.shape.n (length w)) (letters_checked x.shape.k w) (m, c) told in
       let coded = subst (AllByRecursion (λ e. e.code < x.shape.k ^ e.length)) (sym (known s x is es listed)) (listing_coded x.shape.k x.shape.n x.shape.some (length es)) in
-      let at = found_at x.shape.k x.shape.some w (letters_below x.shape.k w p.1) es coded in
+      let at = found_spot x.shape.k x.shape.some w (letters_below x.shape.k w p.1) es coded 0 in
       rw (is, ← p.0, ← p.1, ap (λ z. z.0) p.2, ap (λ z. z.1) p.2) (ap answered at)
+
+pub table_finds : (t : Table) (x : Cursor) → t.next ≡ Some x → (w : List ℕ) (m c : ℕ) → answered (m, c) ≡ read_outcome x.shape.k x.shape.n w → answered (spot (items t.entries) m c) ≡ find_outcome (view t) w
+table_finds t x is w m c told = find_answers t.next x is (items t.entries) (length (places t.entries)) w t.listed m c told

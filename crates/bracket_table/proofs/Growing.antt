@@ -1,6 +1,6 @@
 -- What a grow does, over plain values.
-use Rattle.std.proofs.Common.{◌≡◌, ℕ, ◌+◌, ◌<◌, ◌≤◌, List, [], ◌∷◌, ◌++◌, length, get_or, take, drop, Some, None, Option, sym, refl, ap, ◌∙◌, subst, arith}
-use Rattle.std.proofs.lemmas.List.{length-drop, length_push, length-take, take_more, drop_more, get_or_at, map_push}
+use Rattle.std.proofs.Common.{◌≡◌, ℕ, ◌+◌, ◌<◌, ◌≤◌, List, [], ◌∷◌, ◌++◌, length, get_or, take, drop, set, suc, Some, None, IfSome, Option, sym, refl, ap, ◌∙◌, subst, arith}
+use Rattle.std.proofs.lemmas.List.{length-drop, length_push, length-set, length-take, take_more, drop_more, get_or_at, map_push}
 use Rattle.std.proofs.lemmas.Bool.{le-leb, lt-leb}
 use Rattle.faults.specs.declared.Layer.TheVariants as layer
 use Rattle.faults.specs.Faults.{found}
@@ -16,19 +16,27 @@ use Rattle.lyndon.proofs.Keys.{rest_start}
 use Rattle.lyndon.proofs.Missing.{first_missing}
 use Rattle.coded_word.specs.declared.coded.CodedWord.{CodedWord}
 use Rattle.coded_word.specs.declared.coded.Cursor.{Cursor}
-use Rattle.bracket_table.specs.Calls.{grow_in, grown, listing_of}
+use Rattle.coded_word.specs.Scan.{FirstFrom}
+use Rattle.bracket_table.specs.Calls.{grow_in, grow_outcome, grown, listing_of}
 use Rattle.bracket_table.specs.Held.{entries_in, keys_in, rest_in}
-use Rattle.bracket_table.specs.Search.{made}
-use Rattle.bracket_table.specs.Seen.{dimensions, Sound}
+use Rattle.bracket_table.specs.declared.Table.{Table}
+use Rattle.bracket_table.specs.Search.{made, spot}
+use Rattle.bracket_table.specs.Seen.{dimensions, view, Adds, Sound}
 use Rattle.bracket_table.specs.Views.{Dimensions, View}
 use Rattle.bracket_table.proofs.Made.{made_next}
+use Rattle.bracket_table.proofs.Searching.{spot_below}
+use Rattle.lent_list.specs.declared.LentList.{LentList}
+use Rattle.lent_list.specs.Lent.{items, places}
 
 -- what a table holds: the ghost facts of its type
 abbrev pub Holds : Option Cursor → List Entry → Type 0
 Holds s es = (es ≡ take (length es) (entries_in s)) × ((drop (length es) (keys_in s) ≡ rest_in s) × Unit {0})
 
-pub empty_holds : (x : Cursor) (es : List Entry) → es ≡ [] → x.length ≡ 1 → x.code ≡ 0 → Holds (Some x) es
-empty_holds x es e a b = rw (e, a, b) (refl, (rest_start x.shape.k x.shape.n x.shape.one, tt))
+pub empty_listed : (x : Cursor) (es : List Entry) → es ≡ [] → es ≡ take (length es) (entries_in (Some x))
+empty_listed x es e = rw e refl
+
+pub empty_missing : (x : Cursor) (es : List Entry) → es ≡ [] → x.length ≡ 1 → x.code ≡ 0 → drop (length es) (keys_in (Some x)) ≡ rest_in (Some x)
+empty_missing x es e a b = rw (e, a, b) (rest_start x.shape.k x.shape.n x.shape.one)
 
 -- a refused grow leaves what is seen
 pub kept : (o : Outcome ℕ) (f : _) (v : View) → refused f ≡ o → v ≡ grown o v
@@ -137,6 +145,22 @@ module _ (s : Option Cursor) (x : Cursor) (is : s ≡ Some x) (es : List Entry) 
 
 -- ---- at any time
 
+rising_of : (s : Option Cursor) (es : List Entry) → es ≡ take (length es) (entries_in s) → Rising Earlier es
+rising_of (Some x) es listed = in_order (Some x) x refl es listed
+rising_of None [] listed = tt
+rising_of None (e ∷ es) listed = absurd (omega (arith, ap length listed, length-take (suc (length es)) (entries_in None)))
+
+few_of : (s : Option Cursor) (es : List Entry) → es ≡ take (length es) (entries_in s) → length es ≤ 1496
+few_of (Some x) es listed = few (Some x) x refl es listed
+few_of None es listed = omega (arith, ap length listed, length-take (length es) (entries_in None))
+
+-- the entries of a table stand in listing order
+pub rising : (t : Table) → Rising Earlier (items t.entries)
+rising t = rising_of t.next (items t.entries) t.listed
+
+pub spot_few : (t : Table) (m c : ℕ) → IfSome (spot (items t.entries) m c) (λ i. i < 1496)
+spot_few t m c = spot_below (items t.entries) m c 1496 (few_of t.next (items t.entries) t.listed)
+
 none_some : (d : Dimensions) → ◌≡◌ {A = Option Dimensions} None (Some d) → ◌≡◌ {A = ℕ} 0 1
 none_some d e = cc
 
@@ -146,3 +170,46 @@ sound None es room listed d q = let z = none_some d q in absurd (omega arith)
 sound (Some x) es room listed d q =
     let h : ◌≡◌ {A = Dimensions} (record { k = x.shape.k; n = x.shape.n }) d = cc in
     subst (λ y. FirstEntries y.k y.n es) h (first_entries x.shape.k x.shape.n x.shape.some es listed)
+
+pub table_sound : (t : Table) → Sound (view t)
+table_sound t = sound t.next (items t.entries) (length (places t.entries)) t.listed
+
+-- ---- a grow of a table
+
+module _ (t : Table) (x : Cursor) (is : t.next ≡ Some x) (r : Option CodedWord) (first : FirstFrom x r) where
+  pub grow_complete : r ≡ None → refused (found 9 layer.Table 0 0) ≡ grow_outcome (view t)
+  grow_complete none = complete t.next x is (items t.entries) t.listed t.missing (length (places t.entries)) (subst (FirstFrom x) none first)
+
+  module _ (w : CodedWord) (some : r ≡ Some w) where
+    found_w : FirstFrom x (Some w)
+    found_w = subst (FirstFrom x) some first
+
+    pub grow_full : length (items t.entries) ≡ length (places t.entries) → refused (found 4 layer.Table 0 0) ≡ grow_outcome (view t)
+    grow_full h = full t.next x is (items t.entries) t.listed t.missing w found_w (length (places t.entries)) (omega arith)
+
+    pub grow_few : length (items t.entries) < 1496
+    grow_few = number_few t.next x is (items t.entries) t.listed t.missing w found_w
+
+    module _ (e : Entry) (made_so : e ≡ made w.shape.k (items t.entries) w.length w.code) (l : LentList Entry) (put : items l ≡ items t.entries ++ e ∷ []) where
+      pub grow_first : (i : ℕ) → i ≡ length (items t.entries) → Adds (view t) (get_or (items l) i no_entry)
+      unfolding Adds
+      grow_first i at d q = rw at (grown_adds t.next x is (items t.entries) t.listed t.missing w found_w e made_so (items l) put d q)
+
+      module _ (y : Cursor) (same : y.shape ≡ w.shape) where
+        module _ (size : y.length ≡ w.length) (behind : y.code ≡ w.code + 1) where
+          holds : Holds (Some y) (items l)
+          holds = grown_holds t.next x is (items t.entries) t.listed t.missing w found_w e made_so (items l) put y same size behind
+
+          pub grow_listed : items l ≡ take (length (items l)) (entries_in (Some y))
+          grow_listed = holds.0
+
+          pub grow_missing : drop (length (items l)) (keys_in (Some y)) ≡ rest_in (Some y)
+          grow_missing = holds.1.0
+
+        pub grow_view : length (items t.entries) < length (places t.entries) → places l ≡ set (places t.entries) (length (items t.entries)) e → ◌≡◌ {A = View} (record { shape = dimensions (Some y); entries = items l; room = length (places l) }) (grown (grow_outcome (view t)) (view t))
+        grow_view room there =
+            grown_view t.next x is (items t.entries) t.listed t.missing w found_w e made_so (items l) put y same (length (places t.entries)) (length (places l)) room
+            (ap length there ∙ length-set (places t.entries) (length (items t.entries)) e)
+
+-- what the promises of a grow follow from
+pub ruleset grows = (grow_complete, grow_full, grow_few, grow_first, grow_view, kept)

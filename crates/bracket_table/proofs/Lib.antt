@@ -2,3 +2,5 @@ mod Made
 mod Searching
 pub mod Growing
 mod Finding
+mod Same
+mod Shapes

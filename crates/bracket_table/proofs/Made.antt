@@ -1,36 +1,36 @@
 -- The entry that a table makes is the next one of the listing.
-use Rattle.std.proofs.Common.{◌≡◌, ℕ, zero, suc, ◌<◌, true, false, cond, ◌&&◌, eqb, ◌⊎◌, List, [], ◌∷◌, map, length, get_or, take, drop, sym, refl, ap, ◌∙◌, subst, inl, inr, arith}
-use Rattle.std.specs.List.{AllByRecursion}
+use Rattle.std.proofs.Common.{◌≡◌, ℕ, zero, suc, ◌+◌, ◌<◌, ◌≤◌, true, false, cond, ◌&&◌, eqb, ◌⊎◌, List, [], ◌∷◌, map, length, get_or, take, drop, Some, unwrap_or, sym, ap, ◌∙◌, subst, inl, inr, add-zero, zero-add, arith}
+use Rattle.std.specs.List.{AllByRecursion, position_from}
 use Rattle.std.proofs.lemmas.Bool.{cases_Bool, cases_eq, eq-eqb, ne_eqb}
-use Rattle.std.proofs.ByRecursion.{All-take, All-get_or}
-use Rattle.std.proofs.lemmas.List.{length-drop, length-take, take-map}
+use Rattle.std.proofs.ByRecursion.{All-get_or}
+use Rattle.std.proofs.lemmas.List.{length-drop, length-take}
 use Rattle.lyndon.specs.declared.entry.Entry.{Entry}
 use Rattle.lyndon.specs.Codes.{code, spelled}
 use Rattle.lyndon.proofs.Codes.{length-spelled, code-spelled, cut_within}
 use Rattle.lyndon.specs.Listing.{OfShape}
 use Rattle.lyndon.specs.Listing.{keys}
 use Rattle.lyndon.specs.Entries.{place, cut, number, entry, listing, no_entry}
-use Rattle.bracket_table.specs.Search.{made, spot, spotted}
+use Rattle.bracket_table.specs.Search.{has, made, spot, spotted}
 use Rattle.lyndon.proofs.Keys.{Keyed, keys_each}
 use Rattle.lyndon.proofs.Entries.{is_of, number_before, part_left, part_right, listing_at}
 
-place_take : (t : ℕ) (xs : List (ℕ × ℕ)) (m c : ℕ) → place xs m c < t → place (take t xs) m c ≡ place xs m c
-place_take zero xs m c h = absurd (omega arith)
-place_take (suc t) [] m c h = refl
-place_take (suc t) (x ∷ xs) m c h = go (cases_Bool (eqb x.0 m && eqb x.1 c)) (place_take t xs m c)
-  where
-    go : (eqb x.0 m && eqb x.1 c ≡ true) ⊎ (eqb x.0 m && eqb x.1 c ≡ false) → (place xs m c < t → place (take t xs) m c ≡ place xs m c) → place (take (suc t) (x ∷ xs)) m c ≡ place (x ∷ xs) m c
-    go (inl e) more = rw e refl
-    go (inr e) more = let l : suc (place xs m c) < suc t = simp e at h in rw e (ap suc (more (omega arith)))
-
 module _ (k n : ℕ) (some : 0 < k) where
-  spot_map : (ks xs : List (ℕ × ℕ)) (m c : ℕ) → AllByRecursion (Keyed k 1 n) xs → spot (map (entry k ks) xs) m c ≡ place xs m c
-  spot_map ks [] m c a = refl
-  spot_map ks (x ∷ xs) m c a = rw (length-spelled k x.0 x.1, code-spelled k x.0 x.1 some a.0.high, spot_map ks xs m c a.1)
+  -- an entry that stands among the first t is found there
+  spot_taken : (ks xs : List (ℕ × ℕ)) (t i m c : ℕ) → AllByRecursion (Keyed k 1 n) xs → t ≤ length xs → place xs m c < t → position_from (has m c) i (take t (map (entry k ks) xs)) ≡ Some (i + place xs m c)
+  spot_taken ks xs zero i m c a l h = absurd (omega arith)
+  spot_taken ks [] (suc t) i m c a l h = absurd (omega arith)
+  spot_taken ks (x ∷ xs) (suc t) i m c a l h = go (cases_Bool (eqb x.0 m && eqb x.1 c)) (spot_taken ks xs t (i + 1) m c a.1 (omega arith))
+    where
+      go : (eqb x.0 m && eqb x.1 c ≡ true) ⊎ (eqb x.0 m && eqb x.1 c ≡ false) → (place xs m c < t → position_from (has m c) (i + 1) (take t (map (entry k ks) xs)) ≡ Some (i + 1 + place xs m c)) → position_from (has m c) i (take (suc t) (map (entry k ks) (x ∷ xs))) ≡ Some (i + place (x ∷ xs) m c)
+      go (inl e) more = rw (length-spelled k x.0 x.1, code-spelled k x.0 x.1 some a.0.high, e) (ap Some (sym (add-zero i)))
+      go (inr e) more =
+          let l : suc (place xs m c) < suc t = simp e at h in
+          let q : i + 1 + place xs m c ≡ i + suc (place xs m c) = omega arith in
+          rw (length-spelled k x.0 x.1, code-spelled k x.0 x.1 some a.0.high, e) (more (omega arith) ∙ ap Some q)
 
-  spot_listing : (t m c : ℕ) → place (keys k n) m c < t → spot (take t (listing k n)) m c ≡ place (keys k n) m c
+  spot_listing : (t m c : ℕ) → t ≤ length (keys k n) → place (keys k n) m c < t → spot (take t (listing k n)) m c ≡ Some (place (keys k n) m c)
   unfolding listing
-  spot_listing t m c h = ap (λ z. spot z m c) (take-map (entry k (keys k n)) t (keys k n)) ∙ (spot_map (keys k n) (take t (keys k n)) m c (All-take (Keyed k 1 n) t (keys k n) (keys_each k n)) ∙ place_take t (keys k n) m c h)
+  spot_listing t m c l h = spot_taken (keys k n) (keys k n) t 0 m c (keys_each k n) l h ∙ ap Some (zero-add (place (keys k n) m c))
 
   module _ (t m c : ℕ) (here : t < length (keys k n)) (key : get_or (keys k n) t (0, 0) ≡ (m, c)) where
     K : Keyed k 1 n (m, c)
@@ -44,7 +44,7 @@ module _ (k n : ℕ) (some : 0 < k) where
 
     -- a shorter Lyndon word has its number already
     numbered : (u : List ℕ) → OfShape k n u → length u < m → spotted k (take t (listing k n)) u ≡ number k (keys k n) u
-    numbered u U l = spot_listing t (length u) (code k u) (number_before k n some u U t here (omega (arith, ap (λ z. z.0) key)))
+    numbered u U l = ap (λ z. unwrap_or z 65535) (spot_listing t (length u) (code k u) (omega arith) (number_before k n some u U t here (omega (arith, ap (λ z. z.0) key))))
 
     parts : 1 < m → (spotted k (take t (listing k n)) (take (cut (spelled k m c)) (spelled k m c)) ≡ number k (keys k n) (take (cut (spelled k m c)) (spelled k m c))) × (spotted k (take t (listing k n)) (drop (cut (spelled k m c)) (spelled k m c)) ≡ number k (keys k n) (drop (cut (spelled k m c)) (spelled k m c)))
     parts l =

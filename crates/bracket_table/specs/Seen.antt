@@ -25,5 +25,5 @@ abbrev pub Sound : View → Type 0
 Sound v = (s : Dimensions) → v.shape ≡ Some s → FirstEntries s.k s.n v.entries
 
 -- the word of e is the first that is no entry
-abbrev pub Adds : View → Entry → Type 0
+unfoldable pub Adds : View → Entry → Type 0
 Adds v e = (s : Dimensions) → v.shape ≡ Some s → FirstMissing s.k s.n (words s.k v.entries) (word s.k e)

@@ -1,9 +1,10 @@
 //! Why a call on a table is refused.
 ghost use Rattle.std.specs.Prelude.{◌≡◌};
 ghost use Rattle.bracket_table.specs.Faults.{table_fault};
-ghost use Rattle.bracket_table.specs.declared.fault.TableFault.TheVariants.{Word, Text};
+ghost use Rattle.bracket_table.specs.declared.fault.TableFault.TheVariants.{Full as NoRoom, Word, Text};
 
 use faults::{Fault, Layer};
+use lent_list::Full;
 use text::TextFault;
 use word::WordFault;
 
@@ -49,18 +50,26 @@ impl From<TableFault> for Fault {
     }
 }
 
+impl From<Full> for TableFault {
+    ghost from_gives = { λ below r. r ≡ NoRoom };
+
+    fn from(_below: Full) -> Self {
+        Self::Full
+    }
+}
+
 impl From<WordFault> for TableFault {
     ghost from_gives = { λ below r. r ≡ Word below };
 
-    fn from(below: WordFault) -> TableFault {
-        TableFault::Word(below)
+    fn from(below: WordFault) -> Self {
+        Self::Word(below)
     }
 }
 
 impl From<TextFault> for TableFault {
     ghost from_gives = { λ below r. r ≡ Text below };
 
-    fn from(below: TextFault) -> TableFault {
-        TableFault::Text(below)
+    fn from(below: TextFault) -> Self {
+        Self::Text(below)
     }
 }

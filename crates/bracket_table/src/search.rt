@@ -1,67 +1,60 @@
-//! The search for words among entries in listing order.
-ghost use Rattle.std.specs.Prelude.{◌≡◌, ◌≤◌, length};
-ghost use Rattle.std.specs.Ordering.{MatchOrdering};
+//! The search for words among the entries of a table, which stand in listing order.
+ghost use Rattle.std.specs.Prelude.{◌≡◌, ◌<◌, IfSome, unwrap_or};
+ghost use Rattle.lent_list.specs.Lent.{items};
 ghost use Rattle.lyndon.specs.Entries.{Earlier};
 ghost use Rattle.lyndon.specs.Listing.{Rising};
-ghost use Rattle.bracket_table.specs.Search.{spot, below, made, Low, Hit, High};
+ghost use Rattle.bracket_table.specs.Search.{spot, made};
 
+use crate::Table;
 use coded_word::CodedWord;
 use lyndon::Entry;
-use std::cmp::Ordering;
 
-/// How an entry stands to the word of m letters with the code c.
-fn compare(e: &Entry, m: u8, c: u16) -> Ordering
-    ensures { MatchOrdering result (Low e.now m c) (Hit e.now m c) (High e.now m c) }
-{
-    match e.length.cmp(&m) {
-        Ordering::Equal => e.code.cmp(&c),
-        other => other,
+/// What the rules give a letter in place of the numbers of its parts.
+const NO_PART: u16 = 65_535;
+
+impl<'a> Table<'a> {
+    /// The number of the entry with a word, or none where no entry has it.
+    #[tactic(auto, using(crate::proofs::Growing::rising, crate::proofs::Growing::spot_few))]
+    pub(crate) fn number_of(&self, word: CodedWord) -> Option<usize>
+        ensures value { result ≡ spot (items self.now.entries) word.length word.code }
+        ensures few { IfSome result (λ i. i < 1496) }
+    {
+        position(self.entries.items(), word)
     }
-}
 
-/// The number of the entry with this length and code, or how many entries there are.
-pub(crate) fn number_of(entries: &[Entry], m: u8, c: u16) -> usize
-    requires { Rising Earlier entries.now }
-    ensures { result ≡ spot entries.now m c }
-{
-    let mut low = 0;
-    let mut high = entries.len();
-    while low < high {
-        let mid = low + (high - low) / 2;
-        match compare(&entries[mid], m, c) {
-            Ordering::Less => low = mid + 1,
-            Ordering::Equal => return mid,
-            Ordering::Greater => high = mid,
+    /// The entry of a Lyndon word, the parts of which stand among the entries.
+    pub(crate) fn entry_of(&self, word: CodedWord) -> Entry
+        ensures { result ≡ made word.shape.k (items self.now.entries) word.length word.code }
+    {
+        let (left, right) = match word.parts() {
+            Some(parts) => (self.part(parts.left), self.part(parts.right)),
+            None => (NO_PART, NO_PART),
+        };
+        Entry {
+            length: word.length,
+            code: word.code,
+            left,
+            right,
         }
     }
-    entries.len()
-}
 
-/// A number, where it is below a count.
-pub(crate) fn below(number: usize, count: usize) -> Option<usize>
-    ensures { result ≡ below number count }
-{
-    if number < count { Some(number) } else { None }
-}
-
-/// The entry of a Lyndon word, the parts of which stand among the entries.
-pub(crate) fn entry_of(word: CodedWord, entries: &[Entry]) -> Entry
-    requires few { length entries.now ≤ 1496 }
-    requires order { Rising Earlier entries.now }
-    ensures { result ≡ made word.shape.k entries.now word.length word.code }
-{
-    match word.parts() {
-        Some(parts) => Entry {
-            length: word.length,
-            code: word.code,
-            left: number_of(entries, parts.left.length, parts.left.code) as u16,
-            right: number_of(entries, parts.right.length, parts.right.code) as u16,
-        },
-        None => Entry {
-            length: word.length,
-            code: word.code,
-            left: 65_535,
-            right: 65_535,
-        },
+    /// The number of a part, which stands among the entries.
+    fn part(&self, word: CodedWord) -> u16
+        ensures { result ≡ unwrap_or (spot (items self.now.entries) word.length word.code) 65535 }
+    {
+        self.number_of(word).map_or(NO_PART, |number| number as u16)
     }
+}
+
+/// The number of the entry with a word, among entries in listing order.
+fn position(entries: &[Entry], word: CodedWord) -> Option<usize>
+    requires { Rising Earlier entries.now }
+    ensures { result ≡ spot entries.now word.length word.code }
+{
+    entries
+        .binary_search_by_key(
+            &(word.length, word.code),
+            |entry| (entry.length, entry.code),
+        )
+        .ok()
 }

@@ -8,14 +8,15 @@ use crate::fault::TableFault;
 use coded_word::Shape;
 
 /// The shape of k letters and words of at most n of them.
+#[tactic(auto, using(std::proofs::lemmas::Bool::Decides::nat_tests, crate::proofs::Shapes::fits))]
 pub(crate) fn check_shape(k: u64, n: u64) -> Result<Shape, TableFault>
     ensures outcome { told (λ _. tt) table_fault result ≡ shape_checked k n }
     ensures value { IfOk result (λ s. (s.k ≡ k) × (s.n ≡ n)) }
 {
-    if k < 1 || k > 16 {
+    if !(1..=16).contains(&k) {
         return Err(TableFault::Letters);
     }
-    if n < 1 || n > 12 {
+    if !(1..=12).contains(&n) {
         return Err(TableFault::Depth);
     }
     if k.pow(n as u32) > 4_096 {

@@ -1,4 +1,4 @@
 pub mod Bounds
 mod Spelling
 pub mod Passed
-mod Halves
+mod Cutting

@@ -1,19 +1,16 @@
 //! Words by their codes, and the scan through the Lyndon words of a shape.
-ghost use Rattle.std.specs.Prelude.{◌≡◌, ℕ, ◌+◌, ◌^◌, ◌<◌, ◌≤◌, length, take, drop, MatchOption, IfOk};
+ghost use Rattle.std.specs.Prelude.{◌≡◌, ℕ, ◌+◌, ◌^◌, ◌<◌, ◌≤◌, length, take, drop, Some, MatchOption, IfOk};
 ghost use Rattle.faults.specs.Outcome.{told};
-ghost use Rattle.faults.specs.Outcome.Outcome.{answered};
-ghost use Rattle.lyndon.specs.Codes.{spelled};
 ghost use Rattle.lyndon.specs.Entries.{cut};
 ghost use Rattle.lyndon.specs.Listing.{lyndon};
-ghost use Rattle.word.specs.Faults.{word_fault, length_checked, letters_checked};
-ghost use Rattle.coded_word.specs.Codes.{Codes, read_outcome};
+ghost use Rattle.word.specs.Faults.{word_fault};
+ghost use Rattle.coded_word.specs.Codes.{read_outcome};
 
-use crate::digits::{code_of, cut_of, is_lyndon};
 use crate::shape::Shape;
 use word::{WordFault, check_length, check_letters};
 
 /// A word of a shape, by its length and its code.
-#[derive(Clone, Copy)]
+#[derive(Clone, Copy, PartialEq, Eq, Debug)]
 pub struct CodedWord {
     pub shape: Shape,
     pub length: u8,
@@ -24,14 +21,14 @@ pub struct CodedWord {
 }
 
 /// The two parts of a word.
-#[derive(Clone, Copy)]
+#[derive(Clone, Copy, PartialEq, Eq, Debug)]
 pub struct Parts {
     pub left: CodedWord,
     pub right: CodedWord,
 }
 
 /// A place in the scan through the words of a shape, in listing order: a word, or the end of those of its length.
-#[derive(Clone, Copy)]
+#[derive(Clone, Copy, PartialEq, Eq, Debug)]
 pub struct Cursor {
     pub shape: Shape,
     pub length: u8,
@@ -42,38 +39,40 @@ pub struct Cursor {
 }
 
 impl CodedWord {
+    ghost use Rattle.coded_word.specs.Words.{word_of, left_of, right_of, IsWord};
+
     /// The word with these letters.
+    #[tactic(auto, using(crate::proofs::Passed::letters_below))]
     pub fn read(shape: Shape, letters: &[u8]) -> Result<CodedWord, WordFault>
         ensures outcome { told {Y = ℕ × ℕ} (λ w. (w.length, w.code)) word_fault result ≡ read_outcome shape.k shape.n letters.now }
         ensures shape { IfOk result (λ w. w.shape ≡ shape) }
     {
         check_length(shape.n as usize, letters.len())?;
         check_letters(shape.k, letters)?;
-        Ok(coded(shape, letters))
+        Ok(CodedWord {
+            shape,
+            length: letters.len() as u8,
+            code: shape.code_of(letters),
+        })
     }
 
     /// Whether it is a Lyndon word.
     pub fn is_lyndon(self) -> bool
-        ensures { result ≡ lyndon (spelled self.shape.k self.length self.code) }
+        ensures { result ≡ lyndon (word_of self) }
     {
-        is_lyndon(self.shape.k as u16, self.length, self.code)
+        self.is_before_suffixes()
     }
 
     /// It cut before its longest proper suffix that is Lyndon, or none for a single letter.
     pub fn parts(self) -> Option<Parts>
-        ensures { MatchOption result (self.length ≡ 1) (λ p. (1 < self.length)
-            × (p.left.shape ≡ self.shape) × (p.right.shape ≡ self.shape)
-            × Codes self.shape.k (take (cut (spelled self.shape.k self.length self.code)) (spelled self.shape.k self.length self.code)) p.left.length p.left.code
-            × Codes self.shape.k (drop (cut (spelled self.shape.k self.length self.code)) (spelled self.shape.k self.length self.code)) p.right.length p.right.code) }
+        ensures { MatchOption result (self.length ≡ 1)
+            (λ p. (1 < self.length) × IsWord self.shape (left_of self) p.left × IsWord self.shape (right_of self) p.right) }
     {
-        if self.length == 1 {
-            None
-        } else {
-            Some(halves(self))
-        }
+        Some(self.cut_at(self.cut()?))
     }
 
     /// The place behind it.
+    #[tactic(auto, using(crate::proofs::Bounds::fewer))]
     pub fn after(self) -> Cursor
         ensures shape { result.shape ≡ self.shape }
         ensures length { result.length ≡ self.length }
@@ -85,92 +84,107 @@ impl CodedWord {
             code: self.code + 1,
         }
     }
+
+    /// Whether it is before each of its proper suffixes: the front of the same length has the lower code.
+    fn is_before_suffixes(self) -> bool
+        ensures { result ≡ lyndon (word_of self) }
+    {
+        (1..self.length).all(|i| self.cut_at(self.length - i).left.code < self.cut_at(i).right.code)
+    }
+
+    /// How many letters stand before its longest proper suffix that is Lyndon, or none for a single letter.
+    fn cut(self) -> Option<u8>
+        ensures { MatchOption result (self.length ≡ 1) (λ i. (0 < i) × (i < self.length) × (i ≡ cut (word_of self))) }
+    {
+        (1..self.length).find(|i| self.cut_at(*i).right.is_lyndon())
+    }
+
+    /// It cut behind so many letters.
+    fn cut_at(self, letters: u8) -> Parts
+        requires { (0 < letters) × (letters < self.length) }
+        ensures left { IsWord self.shape (take letters (word_of self)) result.left }
+        ensures right { IsWord self.shape (drop letters (word_of self)) result.right }
+    {
+        let behind = self.length - letters;
+        let weight = self.shape.count_words(behind);
+        let left = CodedWord {
+            shape: self.shape,
+            length: letters,
+            code: self.code / weight,
+        };
+        let right = CodedWord {
+            shape: self.shape,
+            length: behind,
+            code: self.code % weight,
+        };
+        Parts { left, right }
+    }
 }
 
 impl Cursor {
-    ghost use Rattle.coded_word.specs.Scan.{FirstFrom};
+    ghost use Rattle.coded_word.specs.Scan.{FirstFrom, left_from, left_behind};
 
     /// The first place.
     pub fn start(shape: Shape) -> Cursor
         ensures shape { result.shape ≡ shape }
         ensures place { (result.length ≡ 1) × (result.code ≡ 0) }
     {
+        Cursor::of_length(shape, 1)
+    }
+
+    /// The first Lyndon word from here on, or none.
+    #[tactic(auto, using(lyndon::proofs::Keys::rest_none, lyndon::proofs::Keys::rest_longer, crate::proofs::Bounds::not_longest))]
+    pub fn next(self) -> Option<CodedWord>
+        ensures { FirstFrom self result }
+    {
+        let mut place = self;
+        loop {
+            if let Some(word) = place.scan_length() {
+                return Some(word);
+            }
+            place = place.longer()?;
+        }
+    }
+
+    /// The first place of a length.
+    fn of_length(shape: Shape, length: u8) -> Cursor
+        requires { (1 ≤ length) × (length ≤ shape.n) }
+        ensures shape { result.shape ≡ shape }
+        ensures place { (result.length ≡ length) × (result.code ≡ 0) }
+    {
         Cursor {
             shape,
-            length: 1,
+            length,
             code: 0,
         }
     }
 
-    /// The first Lyndon word from here on, or none.
-    pub fn next(self) -> Option<CodedWord>
-        ensures { FirstFrom self result }
+    /// The first Lyndon word from here on that is no longer, or none.
+    #[tactic(auto, using(lyndon::proofs::Keys::rest_found, lyndon::proofs::Keys::rest_passed))]
+    fn scan_length(self) -> Option<CodedWord>
+        ensures { MatchOption result (left_from self ≡ left_behind self) (λ w. FirstFrom self (Some w)) }
     {
-        self.scan()
-    }
-
-    // word by word, up to the end of each length
-    fn scan(self) -> Option<CodedWord>
-        ensures { FirstFrom self result }
-    {
-        let k = self.shape.k as u16;
-        let mut length = self.length;
-        let mut code = self.code;
-        loop {
-            if code == k.pow(length as u32) {
-                if self.shape.is_longest(length) {
-                    return None;
-                }
-                length += 1;
-                code = 0;
-            } else if is_lyndon(k, length, code) {
-                return Some(CodedWord {
-                    shape: self.shape,
-                    length,
-                    code,
-                });
-            } else {
-                code += 1;
+        for code in self.code..self.shape.count_words(self.length) {
+            let word = CodedWord {
+                shape: self.shape,
+                length: self.length,
+                code,
+            };
+            if word.is_lyndon() {
+                return Some(word);
             }
         }
+        None
     }
-}
 
-/// The word with letters that passed the checks.
-fn coded(shape: Shape, letters: &[u8]) -> CodedWord
-    requires length { answered tt ≡ length_checked shape.n (length letters.now) }
-    requires letters { answered tt ≡ letters_checked shape.k letters.now }
-    ensures shape { result.shape ≡ shape }
-    ensures codes { Codes shape.k letters.now result.length result.code }
-{
-    let code = code_of(shape, letters);
-    CodedWord {
-        shape,
-        length: letters.len() as u8,
-        code,
+    /// The first place of the next length, or none behind the longest.
+    fn longer(self) -> Option<Cursor>
+        ensures { MatchOption result (self.length ≡ self.shape.n)
+            (λ c. (c.shape ≡ self.shape) × (c.length ≡ self.length + 1) × (c.code ≡ 0)) }
+    {
+        if self.shape.is_longest(self.length) {
+            return None;
+        }
+        Some(Cursor::of_length(self.shape, self.length + 1))
     }
-}
-
-/// The two parts of a word of two or more letters.
-fn halves(word: CodedWord) -> Parts
-    requires { 1 < word.length }
-    ensures shape { (result.left.shape ≡ word.shape) × (result.right.shape ≡ word.shape) }
-    ensures left { Codes word.shape.k (take (cut (spelled word.shape.k word.length word.code)) (spelled word.shape.k word.length word.code)) result.left.length result.left.code }
-    ensures right { Codes word.shape.k (drop (cut (spelled word.shape.k word.length word.code)) (spelled word.shape.k word.length word.code)) result.right.length result.right.code }
-{
-    let k = word.shape.k as u16;
-    let cut = cut_of(k, word.length, word.code);
-    let behind = word.length - cut;
-    let weight = k.pow(behind as u32);
-    let left = CodedWord {
-        shape: word.shape,
-        length: cut,
-        code: word.code / weight,
-    };
-    let right = CodedWord {
-        shape: word.shape,
-        length: behind,
-        code: word.code % weight,
-    };
-    Parts { left, right }
 }

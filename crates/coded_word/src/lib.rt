@@ -3,7 +3,6 @@
 #![tactic(auto)]
 
 mod coded;
-mod digits;
 mod shape;
 
 pub use coded::{CodedWord, Cursor, Parts};

@@ -1,0 +1,7 @@
+use Rattle.std.proofs.Common.{◌≡◌}
+use Rattle.lyndon.specs.Listing.{rest}
+use Rattle.coded_word.specs.Scan.{left_from}
+use Rattle.coded_word.proofs.coded.Cursor.scan_length.Given as goal
+
+abbrev pub invariant-loop-code : goal.invariant-loop-code
+invariant-loop-code l = left_from l.self ≡ rest l.self.shape.k l.self.shape.n l.self.length l.code
