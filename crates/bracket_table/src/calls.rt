@@ -1,6 +1,7 @@
 //! The calls on a table.
 ghost use Rattle.std.specs.Prelude.{◌≡◌, ◌<◌, length, IfOk, OnErr, Some, None, MatchResult, slice_index_or, slice_set};
 ghost use Rattle.faults.specs.Outcome.{told};
+ghost use Rattle.lent_list.specs.Lent.{SameMemory};
 ghost use Rattle.lyndon.specs.Entries.{no_entry};
 ghost use Rattle.lyndon.specs.Theorems.{Listings};
 ghost use Rattle.bracket_table.specs.Calls.{opened, grow_outcome, grown, look_outcome, find_outcome};
@@ -35,7 +36,7 @@ impl<'a> Table<'a> {
         ensures view { view self.new ≡ opened k n (shape_checked k n) (view self.old) }
         ensures memory { memory self.new ≡ memory self.old }
         ensures refused { OnErr result (self.new ≡ self.old) }
-        ensures lender { self.new.entries.memory.ghost_name ≡ self.old.entries.memory.ghost_name }
+        ensures lender { SameMemory self.old.entries self.new.entries }
     {
         let shape = check_shape(k, n)?;
         self.entries.clear();
@@ -54,7 +55,7 @@ impl<'a> Table<'a> {
             (λ _. self.new ≡ self.old) }
         ensures few { IfOk result (λ i. i < 1496) }
         ensures listings { Listings }
-        ensures lender { self.new.entries.memory.ghost_name ≡ self.old.entries.memory.ghost_name }
+        ensures lender { SameMemory self.old.entries self.new.entries }
     {
         let cursor = self.cursor()?;
         let word = cursor.next().ok_or(TableFault::Complete)?;

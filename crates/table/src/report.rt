@@ -39,14 +39,8 @@ fn lines(heap: Global, input: &[u8]) -> Result<Vec<u8>, Stop>
 {
     let line = first_line(input)?;
     let numbers = read_shape(line)?;
-    let unused = Entry {
-        length: 0,
-        code: 0,
-        left: 0,
-        right: 0,
-    };
     // no shape has more Lyndon words
-    let mut memory = [unused; 1_496];
+    let mut memory = [Entry::default(); 1_496];
     let mut table = Table::fresh(&mut memory);
     table
         .open(numbers.k as u64, numbers.n as u64)

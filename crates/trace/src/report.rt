@@ -6,7 +6,7 @@ ghost use Rattle.trace.specs.Printed.{Determined, LinePrints, Prints, Rising, st
 
 use console::{Program, Stop, settled};
 use lent_list::LentList;
-use letter_order::{ByAxis, Move, Reversed, Sense};
+use letter_order::{ByAxis, Move, Reversed};
 use std::alloc::{AllocError, Global};
 use text::{first_line, write_factor_line};
 use trace_text::read_trace;
@@ -41,11 +41,7 @@ fn lines(heap: Global, input: &[u8]) -> Result<Vec<u8>, Stop>
     ensures { MatchResult result (λ lines. Prints input.now lines.items) (StopPrints (Prints input.now)) }
 {
     let line = first_line(input)?;
-    let still = Move {
-        axis: 0,
-        sense: Sense::Reverse,
-    };
-    let mut memory = [still; MOST];
+    let mut memory = [Move::default(); MOST];
     let mut moves = LentList::new(&mut memory);
     let count = read_trace(line, &mut moves)?;
     let mut memory = [0; MOST];

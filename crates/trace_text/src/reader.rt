@@ -123,6 +123,7 @@ impl<'a> Iterator for Reader<'a> {
     ghost remaining = { moves_left };
 
     fn next(&mut self) -> Option<Result<Move, TextFault>> {
+        // no `for`: it would hold the marks, and `step` needs the whole reader
         while let Some(mark) = self.marks.next() {
             if let Some(ended) = self.step(mark).transpose() {
                 return Some(ended);
