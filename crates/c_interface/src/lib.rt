@@ -22,6 +22,7 @@ pub extern "C" fn lyndon_factor(word: &[u8], starts: &mut [u16], fault: &mut u8)
     ensures starts { starts.new ≡ filled (factor_outcome by_value word.now (length starts.old)) (starts_of by_value word.now) starts.old }
 {
     let mut list = LentList::new(starts);
+    // C has no `Result`: a count and a number
     match factor(&ByValue, word, &mut list) {
         Ok(count) => {
             *fault = 0;

@@ -28,6 +28,7 @@ pub struct Parts {
 }
 
 /// A place in the scan through the words of a shape, in listing order: a word, or the end of those of its length.
+// not a `CodedWord`: at the end of a length there is none
 #[derive(Clone, Copy, PartialEq, Eq, Debug)]
 pub struct Cursor {
     pub shape: Shape,

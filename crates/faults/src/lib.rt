@@ -15,6 +15,7 @@ pub enum Layer {
 }
 
 /// Up to three layers, lowest first: as many as stand above the lowest.
+// three fields, and no array of options: each place has a name, and no index can be wrong
 #[derive(Clone, Copy, PartialEq, Eq, Debug)]
 pub struct Names {
     pub first: Option<Layer>,
@@ -26,6 +27,7 @@ pub struct Names {
 #[derive(Clone, Copy, PartialEq, Eq, Debug)]
 pub struct Fault {
     /// Which fault it is.
+    // a number, and no enum of all: each layer has an enum of its own faults, and the rules number them across layers
     pub number: u8,
     /// The layer that found it.
     pub layer: Layer,

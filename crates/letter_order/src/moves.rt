@@ -21,6 +21,7 @@ pub struct Move {
 }
 
 /// Moves by their axis, the lower first, and along one axis reverse before forward.
+// beside `ByValue`, and no impl for each `Ord`: std's `Equal` is no promise that two letters are the same, as the third law is
 #[derive(Clone, Copy)]
 pub struct ByAxis;
 

@@ -1,6 +1,7 @@
 //! The entries of a listing.
 
 /// A Lyndon word, with the numbers of the two entries of its split.
+// numbers, and no boxes or options: whoever takes the list calls its routines by these numbers, and the rules give a letter 65,535
 #[derive(Clone, Copy, PartialEq, Eq, Default, Debug)]
 pub struct Entry {
     /// How many letters the word has.

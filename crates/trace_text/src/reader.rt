@@ -38,6 +38,7 @@ struct Reader<'a> {
 }
 
 /// The sense that a sign stands for.
+// no `TryFrom`: a sign is a part of the text, and no other bytes come here
 fn sense_of(bytes: &[u8]) -> Sense
     requires { (bytes.now ≡ 43 ∷ []) ⊎ (bytes.now ≡ 45 ∷ []) }
     ensures { bytes.now ≡ sign result ∷ [] }
@@ -96,6 +97,7 @@ impl<'a> Reader<'a> {
         ensures marks { self.new.marks ≡ self.old.marks }
         ensures done { Stepped mark.entry.place self.old self.new result }
     {
+        // state and token together, and no function for each state: so one sees what may follow what
         match (self.state, mark.token) {
             (State::Start | State::Next, Token::Sign(bytes)) => {
                 self.state = State::Axis(sense_of(bytes));

@@ -20,6 +20,7 @@ pub(crate) struct Mark<'a> {
 }
 
 /// The marks of a text, from a place on.
+// the whole text and a place, and not what is left of it: faults name places
 #[derive(Drop)]
 pub(crate) struct Marks<'a> {
     text: &'a [u8],

@@ -24,6 +24,7 @@ pub enum WordFault {
 }
 
 /// Its number, with the layer that found it, and the position of the letter that it is about.
+// by hand, as each `From` here: what a derive writes has no contract, and clauses say what a conversion gives
 impl From<WordFault> for Fault {
     ghost from_gives = { λ refused fault. fault ≡ word_fault refused };
 
