@@ -2,12 +2,12 @@
 
 #![tactic(auto)]
 
-ghost use Rattle.std.specs.Prelude.{◌≡◌, ℕ, List, ◌≤◌, length, take, IfOk, IfSome, OnOk, vec_items};
+ghost use Rattle.std.specs.Prelude.{◌≡◌, ℕ, List, ◌≤◌, length, take, IfOk, IfSome, MatchResult, OnOk, vec_items};
 ghost use Rattle.std.specs.Io.KnownBytes.{Appends};
 ghost use Rattle.text.specs.Faults.{text_fault};
 ghost use Rattle.text.specs.Lines.{fault_line};
 ghost use Rattle.word.specs.Faults.{word_fault};
-ghost use Rattle.console.specs.Reports.{Settled};
+ghost use Rattle.console.specs.Reports.{Settled, StopPrints};
 ghost use Rattle.console.specs.declared.Stop.TheVariants.{Refused, NoMemory};
 
 use faults::Fault;
@@ -109,9 +109,17 @@ pub trait Program {
     // what may be printed for an input
     ghost prints: { List ℕ → List ℕ → Type 0 };
 
-    /// The lines that it prints for an input.
+    /// The lines that it prints for an input, or what stops them.
+    fn lines(&self, heap: Global, input: &[u8]) -> Result<Vec<u8>, Stop>
+        ensures printed { MatchResult result (λ lines. prints input.now lines.items) (StopPrints (prints input.now)) };
+
+    /// What it prints for an input: these lines, or the line of a fault.
+    #[tactic(auto, using(crate::proofs::Reports::settles))]
     fn report(&self, heap: Global, input: &[u8]) -> Result<Vec<u8>, AllocError>
-        ensures printed { IfOk result (λ lines. prints input.now lines.items) };
+        ensures printed { IfOk result (λ lines. prints input.now lines.items) }
+    {
+        settled(heap, self.lines(heap, input))
+    }
 
     ghost front: { (input printed : List ℕ) → prints (take 4097 input) printed → prints input printed };
 }
@@ -144,8 +152,8 @@ mod tests {
     impl Program for Echo {
         ghost prints = { λ _ _. Unit {0} };
 
-        fn report(&self, heap: Global, input: &[u8]) -> Result<Vec<u8>, AllocError> {
-            Vec::from_slice(heap, input)
+        fn lines(&self, heap: Global, input: &[u8]) -> Result<Vec<u8>, Stop> {
+            Ok(Vec::from_slice(heap, input)?)
         }
 
         ghost front = { λ _ _ _. tt };

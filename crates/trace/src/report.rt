@@ -4,7 +4,7 @@ ghost use Rattle.console.specs.Reports.{StopPrints};
 ghost use Rattle.text.specs.Lines.{factor_line};
 ghost use Rattle.trace.specs.Printed.{Determined, LinePrints, Prints, Rising, start_lines};
 
-use console::{Program, Stop, settled};
+use console::{Program, Stop};
 use lent_list::LentList;
 use letter_order::{ByAxis, Move, Reversed};
 use std::alloc::{AllocError, Global};
@@ -18,36 +18,28 @@ const MOST: usize = 1_366;
 /// The program that prints the factors of a trace.
 pub struct Trace;
 
-#[tactic(auto, using(crate::proofs::Reports::determined))]
 impl Program for Trace {
     ghost use Rattle.console.proofs.Reports.{front_prints};
 
     ghost prints = { Prints };
 
-    /// The lines that the program prints for an input.
-    fn report(&self, heap: Global, input: &[u8]) -> Result<Vec<u8>, AllocError>
-        ensures printed { IfOk result (λ lines. Prints input.now lines.items) }
+    /// A line for each factor of the trace in the first line of an input, under the reversed order.
+    #[tactic(auto, using(crate::proofs::Reports::trace_refused, crate::proofs::Reports::factors_fit, crate::proofs::Reports::rising_factors, crate::proofs::Reports::trace_printed, crate::proofs::Reports::determined))]
+    fn lines(&self, heap: Global, input: &[u8]) -> Result<Vec<u8>, Stop>
+        ensures printed { MatchResult result (λ lines. Prints input.now lines.items) (StopPrints (Prints input.now)) }
         ensures determined { Determined }
     {
-        settled(heap, lines(heap, input))
+        let line = first_line(input)?;
+        let mut memory = [Move::default(); MOST];
+        let mut moves = LentList::new(&mut memory);
+        let count = read_trace(line, &mut moves)?;
+        let mut memory = [0; MOST];
+        let mut starts = LentList::new(&mut memory);
+        factor(&Reversed(ByAxis), moves.items(), &mut starts)?;
+        Ok(start_lines(heap, starts.items(), count as u16)?)
     }
 
     ghost front = { front_prints LinePrints };
-}
-
-/// A line for each factor of the trace in the first line of an input, under the reversed order.
-#[tactic(auto, using(crate::proofs::Reports::trace_refused, crate::proofs::Reports::factors_fit, crate::proofs::Reports::rising_factors, crate::proofs::Reports::trace_printed))]
-fn lines(heap: Global, input: &[u8]) -> Result<Vec<u8>, Stop>
-    ensures { MatchResult result (λ lines. Prints input.now lines.items) (StopPrints (Prints input.now)) }
-{
-    let line = first_line(input)?;
-    let mut memory = [Move::default(); MOST];
-    let mut moves = LentList::new(&mut memory);
-    let count = read_trace(line, &mut moves)?;
-    let mut memory = [0; MOST];
-    let mut starts = LentList::new(&mut memory);
-    factor(&Reversed(ByAxis), moves.items(), &mut starts)?;
-    Ok(start_lines(heap, starts.items(), count as u16)?)
 }
 
 /// A line for each factor, by where they start and the place behind them all.
