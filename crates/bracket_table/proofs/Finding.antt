@@ -69,29 +69,20 @@ module _ (k : ℕ) (some : 1 ≤ k) (w : List ℕ) (over : Over k w) where
   found_spot (e ∷ es) a i = rw (same_word e a.0, add-one) (ap (cond (has (length w) (code k w) e) (Some i)) (found_spot es a.1 (suc i)))
 
 -- what reading a word comes to, passed up
-module _ {X Y : Type 0} (y : X) (z : Y) where
+module _ {X : Type 0} (y : X) where
   pub passed_both : (a b : Outcome (Unit {0})) (x : X) → answered x ≡ checked a (checked b (answered y)) → (answered tt ≡ a) × (answered tt ≡ b) × (x ≡ y)
   passed_both (answered u) (answered v) x e = (refl, refl, cc)
   passed_both (answered u) (refused g) x e = absurd (let z : ◌≡◌ {A = ℕ} 0 1 = cc in omega arith)
   passed_both (refused g) b x e = absurd (let z : ◌≡◌ {A = ℕ} 0 1 = cc in omega arith)
 
-  pub refused_both : (by : Layer) (a b : Outcome (Unit {0})) (f : Fault) → refused f ≡ checked a (checked b (answered y)) → refused (passed by f) ≡ checked (passed_up by a) (checked (passed_up by b) (answered z))
-  refused_both by (answered u) (answered v) f e = absurd (let z : ◌≡◌ {A = ℕ} 0 1 = cc in omega arith)
-  refused_both by (answered u) (refused g) f e = let h : f ≡ g = cc in ap (λ t. refused (passed by t)) h
-  refused_both by (refused g) b f e = let h : f ≡ g = cc in ap (λ t. refused (passed by t)) h
-
 module _ (s : Option Cursor) (x : Cursor) (is : s ≡ Some x) (es : List Entry) (room : ℕ) (w : List ℕ) where
   abbrev seen : View
   seen = record { shape = dimensions s; entries = es; room = room }
 
-  pub find_refuses : (f : Fault) → refused f ≡ read_outcome x.shape.k x.shape.n w → refused (passed layer.Table f) ≡ find_outcome seen w
-  find_refuses f told =
-      rw is (refused_both (length w, code x.shape.k w) (found_from 0 (words x.shape.k es) w) layer.Table (length_checked x.shape.n (length w)) (letters_checked x.shape.k w) f told)
-
   -- a search for the word of m letters with the code c
   pub find_answers : es ≡ take (length es) (entries_in s) → (m c : ℕ) → answered (m, c) ≡ read_outcome x.shape.k x.shape.n w → answered (spot es m c) ≡ find_outcome seen w
   find_answers listed m c told =
-      let p = passed_both (length w, code x.shape.k w) (length w) (length_checked x.shape.n (length w)) (letters_checked x.shape.k w) (m, c) told in
+      let p = passed_both (length w, code x.shape.k w) (length_checked x.shape.n (length w)) (letters_checked x.shape.k w) (m, c) told in
       let coded = subst (AllByRecursion (λ e. e.code < x.shape.k ^ e.length)) (sym (known s x is es listed)) (listing_coded x.shape.k x.shape.n x.shape.some (length es)) in
       let at = found_spot x.shape.k x.shape.some w (letters_below x.shape.k w p.1) es coded 0 in
       rw (is, ← p.0, ← p.1, ap (λ z. z.0) p.2, ap (λ z. z.1) p.2) (ap answered at)

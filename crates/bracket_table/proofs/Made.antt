@@ -71,10 +71,3 @@ module _ (k n : ℕ) (some : 0 < k) where
 
     pub made_next : made k (take t (listing k n)) m c ≡ get_or (listing k n) t no_entry
     made_next = made_entry ∙ sym (listing_at k n some t (0, 0) no_entry here ∙ ap (entry k (keys k n)) key)
-
--- a letter, and a longer word by the numbers of its parts
-pub made_letter : (k : ℕ) (es : List Entry) (m c : ℕ) → m ≡ 1 → record { length = m; code = c; left = 65535; right = 65535 } ≡ made k es m c
-made_letter k es m c h = rw (eq-eqb m 1 h)
-
-pub made_pair : (k : ℕ) (es : List Entry) (m c l r : ℕ) → 1 < m → l ≡ spotted k es (take (cut (spelled k m c)) (spelled k m c)) → r ≡ spotted k es (drop (cut (spelled k m c)) (spelled k m c)) → record { length = m; code = c; left = l; right = r } ≡ made k es m c
-made_pair k es m c l r h a b = rw (ne_eqb m 1 (λ e. omega arith), a, b)

@@ -8,7 +8,7 @@ use Rattle.text.specs.Input.{first_line, FrontDecides}
 use Rattle.text.proofs.FirstLine.{front_decides}
 use Rattle.console.specs.declared.Stop.{Stop}
 use Rattle.console.specs.declared.Stop.TheVariants.{Refused, NoMemory}
-use Rattle.console.specs.Reports.{OutcomePrints, Settled, StopPrints}
+use Rattle.console.specs.Reports.{Determined, OutcomePrints, Prints, Settled, StopPrints}
 
 -- ---- a settled report
 
@@ -20,11 +20,11 @@ settles items P (Err (NoMemory e)) printed p is = subst (λ r. IfOk r (λ v. P (
 -- ---- what is printed for an input
 
 -- its line decides it
-pub line_prints : (P : List ℕ → List ℕ → Type 0) (input line printed : List ℕ) → answered line ≡ first_line input → P line printed → OutcomePrints P (first_line input) printed
+pub line_prints : (P : List ℕ → List ℕ → Type 0) (input line printed : List ℕ) → answered line ≡ first_line input → P line printed → Prints P input printed
 line_prints P input line printed is p = subst (λ o. OutcomePrints P o printed) is p
 
 -- its front decides it
-pub front_prints : (P : List ℕ → List ℕ → Type 0) (input printed : List ℕ) → OutcomePrints P (first_line (take 4097 input)) printed → OutcomePrints P (first_line input) printed
+pub front_prints : (P : List ℕ → List ℕ → Type 0) (input printed : List ℕ) → Prints P (take 4097 input) printed → Prints P input printed
 unfolding FrontDecides
 front_prints P input printed p = subst (λ o. OutcomePrints P o printed) (front_decides input) p
 
@@ -32,3 +32,9 @@ front_prints P input printed p = subst (λ o. OutcomePrints P o printed) (front_
 pub one_prints : {X : Type 0} (P : X → List ℕ → Type 0) → ((x : X) (one other : List ℕ) → P x one → P x other → one ≡ other) → (o : Outcome X) (one other : List ℕ) → OutcomePrints P o one → OutcomePrints P o other → one ≡ other
 one_prints P only (answered x) one other p q = only x one other p q
 one_prints P only (refused f) one other p q = p ∙ sym q
+
+pub determined : (P : List ℕ → List ℕ → Type 0) → ((line one other : List ℕ) → P line one → P line other → one ≡ other) → Determined P
+determined P only = record {
+  front = front_prints P;
+  once = λ input one other. one_prints P only (first_line input) one other;
+}

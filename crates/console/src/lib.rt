@@ -7,7 +7,7 @@ ghost use Rattle.std.specs.Io.KnownBytes.{Appends};
 ghost use Rattle.text.specs.Faults.{text_fault};
 ghost use Rattle.text.specs.Lines.{fault_line};
 ghost use Rattle.word.specs.Faults.{word_fault};
-ghost use Rattle.console.specs.Reports.{Settled, StopPrints};
+ghost use Rattle.console.specs.Reports.{Determined, Prints, Settled, StopPrints};
 ghost use Rattle.console.specs.declared.Stop.TheVariants.{Refused, NoMemory};
 
 use faults::Fault;
@@ -19,6 +19,9 @@ use word::WordFault;
 
 /// So many bytes of an input decide what its first line is: those of the longest line that is taken, and one more.
 pub const FRONT: usize = 4_097;
+
+/// The most bytes that the line of a fault has, and some more.
+const LONGEST: usize = 16;
 
 /// The front of an input: as many bytes as decide what its first line is, or all where there are fewer.
 pub fn read_front<R: Read + Drop>(heap: Global, input: R) -> io::Result<Vec<u8>>
@@ -49,6 +52,8 @@ pub enum Stop {
     NoMemory(AllocError),
 }
 
+// by hand, since clauses say what a conversion gives, and one for each: one for all that a fault is made of would cover
+// missing memory too
 impl From<Fault> for Stop {
     ghost from_gives = { λ fault stop. stop ≡ Refused fault };
 
@@ -86,9 +91,9 @@ impl From<AllocError> for Stop {
 pub fn fault_report(heap: Global, number: u8) -> Result<Vec<u8>, AllocError>
     ensures { IfOk result (λ lines. lines.items ≡ fault_line number) }
 {
-    // lines are put alike: one public function for all would ask that a closure may be called, and public ones ask nothing
-    // no line of a fault is longer
-    let mut line = [0; 16];
+    // each line is written into a lent buffer, by a buffer, a call and a slice. One public function for all would ask
+    // that a closure may be called, which public ones do not, and a trait for lines would be longer
+    let mut line = [0; LONGEST];
     let count = write_fault_line(number, &mut line).unwrap();
     Vec::from_slice(heap, &line[..count])
 }
@@ -104,24 +109,26 @@ pub fn settled(heap: Global, report: Result<Vec<u8>, Stop>) -> Result<Vec<u8>, A
     }
 }
 
-/// A program: what it prints for an input, of which the front decides.
+/// A program: what it prints for an input, of which the first line decides.
 pub trait Program {
-    // what may be printed for an input
+    /// What may be printed for a line of at most 4,096 bytes.
     ghost prints: { List ℕ → List ℕ → Type 0 };
 
     /// The lines that it prints for an input, or what stops them.
     fn lines(&self, heap: Global, input: &[u8]) -> Result<Vec<u8>, Stop>
-        ensures printed { MatchResult result (λ lines. prints input.now lines.items) (StopPrints (prints input.now)) };
+        ensures { MatchResult result (λ lines. Prints prints input.now lines.items) (StopPrints (Prints prints input.now)) };
 
     /// What it prints for an input: these lines, or the line of a fault.
     #[tactic(auto, using(crate::proofs::Reports::settles))]
     fn report(&self, heap: Global, input: &[u8]) -> Result<Vec<u8>, AllocError>
-        ensures printed { IfOk result (λ lines. prints input.now lines.items) }
+        ensures printed { IfOk result (λ lines. Prints prints input.now lines.items) }
+        ensures determined { Determined prints }
     {
         settled(heap, self.lines(heap, input))
     }
 
-    ghost front: { (input printed : List ℕ) → prints (take 4097 input) printed → prints input printed };
+    /// One thing is printed for a line.
+    ghost once: { (line one other : List ℕ) → prints line one → prints line other → one ≡ other };
 }
 
 /// Runs a program: writes what it prints for an input.
@@ -132,7 +139,7 @@ pub fn run<P: Program, R: Read + Drop, W: Write>(
     output: &mut W,
 ) -> io::Result<()>
     ensures { OnOk result (IfSome (R.remaining input) (λ bytes. (printed : List ℕ)
-        × P.prints bytes printed
+        × Prints P.prints bytes printed
         × Appends (W.contents output.old) (W.contents output.new) printed)) }
 {
     let front = read_front(heap, input)?;
@@ -145,26 +152,31 @@ mod tests {
     use super::*;
     use faults::Layer;
     use std::test::Fail;
+    use text::first_line;
 
-    /// Prints the part of its input that it is given.
+    /// Prints the first line of its input.
     struct Echo;
 
     impl Program for Echo {
-        ghost prints = { λ _ _. Unit {0} };
+        ghost use Rattle.std.specs.Prelude.{sym, ◌∙◌};
 
+        ghost prints = { λ line printed. printed ≡ line };
+
+        #[tactic(auto, using(crate::proofs::Reports::line_prints))]
         fn lines(&self, heap: Global, input: &[u8]) -> Result<Vec<u8>, Stop> {
-            Ok(Vec::from_slice(heap, input)?)
+            let line = first_line(input)?;
+            Ok(Vec::from_slice(heap, line)?)
         }
 
-        ghost front = { λ _ _ _. tt };
+        ghost once = { λ line one other p q. p ∙ sym q };
     }
 
     #[test]
-    fn a_program_is_given_the_front(rt: HostRuntime) -> Result<(), Fail> {
-        let input = [b'x'; 5_000];
+    fn a_program_prints_by_its_first_line(rt: HostRuntime) -> Result<(), Fail> {
+        let input = b"one\ntwo";
         let mut output = Vec::new(rt.alloc());
         run(&Echo, rt.alloc(), input.as_slice(), &mut output)?;
-        assert_eq!(rt; output.len(), FRONT);
+        assert!(rt; output.as_slice() == b"one".as_slice());
         Ok(())
     }
 

@@ -32,6 +32,7 @@ pub struct Fault {
     /// The layer that found it.
     pub layer: Layer,
     /// The byte of a text that it is about, or 0.
+    // as the rules have it, and so the position: 0 where none is named
     pub place: usize,
     /// The letter of a word that it is about, or 0.
     pub position: usize,

@@ -6,6 +6,7 @@ ghost use Rattle.input_text.specs.Parts.{DigitAt, NumberAt, SpaceAt, EndAt, plac
 use text::TextFault;
 
 /// A line, and the place from which on it is left to read.
+// the whole line and a place, and not what is left of it: faults name places
 #[derive(Drop)]
 pub(crate) struct LineReader<'a> {
     line: &'a [u8],
@@ -26,7 +27,9 @@ impl<'a> LineReader<'a> {
         ensures line { self.new.line.now ≡ self.old.line.now }
         ensures number { NumberAt self.old.line.now self.old.place self.new.place result }
     {
-        let first = self.digit().ok_or(self.fault())?;
+        let Some(first) = self.digit() else {
+            return Err(self.fault());
+        };
         if first > 0 {
             if let Some(second) = self.digit() {
                 return Ok(first * 10 + second);

@@ -6,7 +6,7 @@ ghost use Rattle.std.specs.Prelude.{◌≡◌, ◌+◌, ◌<◌, ◌≤◌, [], 
 ghost use Rattle.std.specs.List.{slice_get};
 
 /// The memory is too short for what is to be put into it.
-#[derive(Clone, Copy, Debug)]
+#[derive(Clone, Copy, PartialEq, Eq, Debug)]
 pub struct Full;
 
 /// A list whose elements fill the front of a lent slice.
@@ -19,7 +19,7 @@ pub struct LentList<'a, T> {
 }
 
 impl<'a, T: Copy> LentList<'a, T> {
-    ghost use Rattle.lent_list.specs.Lent.{places, items, over, SameMemory};
+    ghost use Rattle.lent_list.specs.Lent.{places, items, SameMemory, Refilled};
 
     /// An empty list. A place of the memory keeps what it holds until it is used.
     pub fn new(memory: &'a mut [T]) -> Self
@@ -82,11 +82,9 @@ impl<'a, T: Copy> LentList<'a, T> {
     pub fn extend_from_slice(&mut self, elements: &[T]) -> Result<(), Full>
         ensures done { MatchResult result
             (λ _. (length (items self.old) + length elements.now ≤ length (places self.old))
-            × (items self.new ≡ items self.old ++ elements.now)
-            × (places self.new ≡ over (items self.old ++ elements.now) (places self.old)))
+            × Refilled self.old self.new (items self.old ++ elements.now))
             (λ _. (length (places self.old) < length (items self.old) + length elements.now)
             × (self.new ≡ self.old)) }
-        ensures lender { SameMemory self.old self.new }
     {
         let start = self.count();
         if elements.len() > self.size() - start {
@@ -102,11 +100,9 @@ impl<'a, T: Copy> LentList<'a, T> {
     pub fn replace(&mut self, elements: &[T]) -> Result<(), Full>
         ensures done { MatchResult result
             (λ _. (length elements.now ≤ length (places self.old))
-            × (items self.new ≡ elements.now)
-            × (places self.new ≡ over elements.now (places self.old)))
+            × Refilled self.old self.new elements.now)
             (λ _. (length (places self.old) < length elements.now)
             × (self.new ≡ self.old)) }
-        ensures lender { SameMemory self.old self.new }
     {
         if elements.len() > self.size() {
             return Err(Full);

@@ -22,7 +22,7 @@ pub struct Move {
 
 /// Moves by their axis, the lower first, and along one axis reverse before forward.
 // beside `ByValue`, and no impl for each `Ord`: std's `Equal` is no promise that two letters are the same, as the third law is
-#[derive(Clone, Copy)]
+#[derive(Clone, Copy, Default, Debug)]
 pub struct ByAxis;
 
 impl Order<Move> for ByAxis {

@@ -45,7 +45,7 @@ impl Order<u8> for ByValue {
 }
 
 /// The reverse of an order.
-#[derive(Clone, Copy)]
+#[derive(Clone, Copy, Default, Debug)]
 pub struct Reversed<O>(pub O);
 
 impl<L, O: Order<L>> Order<L> for Reversed<O> {

@@ -111,13 +111,6 @@ module _ (k m c : ℕ) (some : 1 ≤ k) (here : c < k ^ m) where
           absurd (omega arith)
       go (inr e) = sym e
 
-  -- the last m - i letters, as a word of their own
-  pub suffix_spelled : (i : ℕ) → i ≤ m → spelled k (m - i) (c % k ^ (m - i)) ≡ drop i (spelled k m c)
-  suffix_spelled i h =
-      let a : code k (drop i (spelled k m c)) ≡ c % k ^ (m - i) = rw (is_code, size) at (code-drop k (spelled k m c) over i (omega (arith, size))) in
-      let b : length (drop i (spelled k m c)) ≡ m - i = length-drop i (spelled k m c) ∙ ap (λ z. z - i) size in
-      rw (← a, ← b) (spelled-code k (drop i (spelled k m c)) some (over-drop k i (spelled k m c) over))
-
   pub suffix_code : (i : ℕ) → i ≤ m → code k (drop i (spelled k m c)) ≡ c % k ^ (m - i)
   suffix_code i h = rw (is_code, size) at (code-drop k (spelled k m c) over i (omega (arith, size)))
 
@@ -144,15 +137,3 @@ module _ (k m c : ℕ) (some : 1 ≤ k) (here : c < k ^ m) where
       go (inl e) = e
       go (inr (inl q)) = absurd (omega (arith, length-take-le (cut (spelled k m c)) (spelled k m c) (omega (arith, at.1)), (cut_splits (spelled k m c) two).longest i p (lyndon_says (drop i (spelled k m c)) (sym y))))
       go (inr (inr q)) = absurd (both_ways (lyndon (drop (cut (spelled k m c)) (spelled k m c))) (sym (h (cut (spelled k m c)) at.0 q)) (says_lyndon (drop (cut (spelled k m c)) (spelled k m c)) (cut_splits (spelled k m c) two).lyndon))
-
-  -- the last letter alone is Lyndon
-  pub cut_last : 2 ≤ m → ((j : ℕ) → 0 < j → j < m - 1 → false ≡ lyndon (drop j (spelled k m c))) → m - 1 ≡ cut (spelled k m c)
-  cut_last two h = go (cases_order (cut (spelled k m c)) (m - 1))
-    where
-      at : (0 < cut (spelled k m c)) × (cut (spelled k m c) < length (spelled k m c))
-      at = cut_within (spelled k m c) (omega (arith, size))
-
-      go : (cut (spelled k m c) ≡ m - 1) ⊎ ((cut (spelled k m c) < m - 1) ⊎ (m - 1 < cut (spelled k m c))) → m - 1 ≡ cut (spelled k m c)
-      go (inl e) = sym e
-      go (inr (inl q)) = absurd (both_ways (lyndon (drop (cut (spelled k m c)) (spelled k m c))) (sym (h (cut (spelled k m c)) at.0 q)) (says_lyndon (drop (cut (spelled k m c)) (spelled k m c)) (cut_splits (spelled k m c) (omega (arith, size))).lyndon))
-      go (inr (inr q)) = absurd (omega (arith, size, at.1))

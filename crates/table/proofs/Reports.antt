@@ -17,9 +17,9 @@ use Rattle.input_text.proofs.Outcomes.{one_meaning}
 use Rattle.bracket_table.specs.Faults.{table_fault}
 use Rattle.bracket_table.specs.Views.{shape_checked}
 use Rattle.bracket_table.specs.declared.fault.TableFault.{TableFault}
-use Rattle.table.specs.Printed.{Determined, LinePrints, Prints, ShapePrints, printed_table}
-use Rattle.console.specs.Reports.{OutcomePrints}
-use Rattle.console.proofs.Reports.{front_prints, line_prints, one_prints}
+use Rattle.table.specs.Printed.{LinePrints, ShapePrints, printed_table}
+use Rattle.console.specs.Reports.{OutcomePrints, Prints}
+use Rattle.console.proofs.Reports.{line_prints, one_prints}
 use Rattle.table.specs.Printed.LinePrints.{shape, malformed}
 
 -- ---- lines
@@ -33,42 +33,20 @@ numbers_malformed bs f o (read s h) e = absurd (let z : ◌≡◌ {A = ℕ} 0 1 
 numbers_malformed bs f o (stopped p h) e =
     let same : f ≡ found 15 Text p 0 = cc in malformed p h (ap (λ g. fault_line g.number) same)
 
-pub numbers_refused : (input line : List ℕ) (f : Fault) → answered line ≡ first_line input → ShapeOutcome line (refused f) → Prints input (fault_line f.number)
+pub numbers_refused : (input line : List ℕ) (f : Fault) → answered line ≡ first_line input → ShapeOutcome line (refused f) → Prints LinePrints input (fault_line f.number)
 numbers_refused input line f is told = line_prints LinePrints input line _ is (numbers_malformed line f _ told refl)
 
 -- what a shape prints, where opening a table comes to `opened`
-shape_prints : (input line : List ℕ) (s : Numbers) (opened : Outcome (Unit {0})) (printed : List ℕ) → answered line ≡ first_line input → ShapeOutcome line (answered s) → opened ≡ shape_checked s.k s.n → OutcomePrints (λ _ lines. lines ≡ printed_table s.k s.n) opened printed → Prints input printed
+shape_prints : (input line : List ℕ) (s : Numbers) (opened : Outcome (Unit {0})) (printed : List ℕ) → answered line ≡ first_line input → ShapeOutcome line (answered s) → opened ≡ shape_checked s.k s.n → OutcomePrints (λ _ lines. lines ≡ printed_table s.k s.n) opened printed → Prints LinePrints input printed
 shape_prints input line s opened printed is told same p =
     line_prints LinePrints input line printed is (shape s.k s.n (numbers_read line s _ told refl) (subst (λ o. OutcomePrints (λ _ lines. lines ≡ printed_table s.k s.n) o printed) same p))
 
 -- the fault with which a table is not opened
-pub shape_refused : (input line : List ℕ) (s : Numbers) (r : Result (Unit {0}) TableFault) (f : Fault) → answered line ≡ first_line input → ShapeOutcome line (answered s) → told (λ done. done) table_fault r ≡ shape_checked s.k s.n → MatchResult r (λ x. ◌≡◌ {A = Result (Unit {0}) Fault} (Err f) (Ok x)) (λ e. IsErrAnd {T = Unit {0}} (Err f) (λ g. g ≡ table_fault e)) → Prints input (fault_line f.number)
+pub shape_refused : (input line : List ℕ) (s : Numbers) (r : Result (Unit {0}) TableFault) (f : Fault) → answered line ≡ first_line input → ShapeOutcome line (answered s) → told (λ done. done) table_fault r ≡ shape_checked s.k s.n → MatchResult r (λ x. ◌≡◌ {A = Result (Unit {0}) Fault} (Err f) (Ok x)) (λ e. IsErrAnd {T = Unit {0}} (Err f) (λ g. g ≡ table_fault e)) → Prints LinePrints input (fault_line f.number)
 shape_refused input line s (Ok done) f is told same m = absurd (let z : ◌≡◌ {A = ℕ} 0 1 = cc in omega arith)
 shape_refused input line s (Err e) f is told same m =
     shape_prints input line s _ _ is told same (ap (λ g. fault_line g.number) m)
 
-pub table_printed : (input line : List ℕ) (s : Numbers) (r : Result (Unit {0}) TableFault) (printed : List ℕ) → answered line ≡ first_line input → ShapeOutcome line (answered s) → told (λ done. done) table_fault r ≡ shape_checked s.k s.n → true ≡ is_ok r → printed ≡ printed_table s.k s.n → Prints input printed
+pub table_printed : (input line : List ℕ) (s : Numbers) (r : Result (Unit {0}) TableFault) (printed : List ℕ) → answered line ≡ first_line input → ShapeOutcome line (answered s) → told (λ done. done) table_fault r ≡ shape_checked s.k s.n → true ≡ is_ok r → printed ≡ printed_table s.k s.n → Prints LinePrints input printed
 table_printed input line s (Ok done) printed is told same ok e = shape_prints input line s _ _ is told same e
 table_printed input line s (Err f) printed is told same ok e = absurd (false≢true (sym ok))
-
--- ---- one thing is printed
-
-one_shape : (k n : ℕ) (one other : List ℕ) → ShapePrints k n one → ShapePrints k n other → one ≡ other
-one_shape k n one other p q =
-    one_prints (λ _ lines. lines ≡ printed_table k n) (λ _ a b e f. e ∙ sym f) (shape_checked k n) one other p q
-
-one_line : (bs one other : List ℕ) → LinePrints bs one → LinePrints bs other → one ≡ other
-one_line bs one other (shape k n f p) (shape m j g q) =
-    let same = one_meaning bs (k ∷ n ∷ []) (m ∷ j ∷ []) f g in
-    let first : m ≡ k = cc in
-    let second : j ≡ n = cc in
-    one_shape k n one other p (subst (λ z. ShapePrints k z other) second (subst (λ z. ShapePrints z j other) first q))
-one_line bs one other (shape k n f p) (malformed i s e) = absurd (means_or_stops IsShape bs (k ∷ n ∷ []) i f s)
-one_line bs one other (malformed i s e) (shape k n f p) = absurd (means_or_stops IsShape bs (k ∷ n ∷ []) i f s)
-one_line bs one other (malformed i s e) (malformed j t g) = e ∙ sym g
-
-pub determined : Determined
-determined = record {
-  front = front_prints LinePrints;
-  once = λ input one other. one_prints LinePrints one_line (first_line input) one other;
-}

@@ -27,12 +27,3 @@ ShapePrints k n printed = OutcomePrints (λ _ lines. lines ≡ printed_table k n
 pub data LinePrints (bytes printed : List ℕ) : Type 0 where
   shape : (k n : ℕ) → IsShape bytes (k ∷ n ∷ []) → ShapePrints k n printed → LinePrints bytes printed
   malformed : (p : ℕ) → Stops IsShape bytes p → printed ≡ fault_line 15 → LinePrints bytes printed
-
--- for an input: what its first line prints, or the fault with which that is refused
-abbrev pub Prints : List ℕ → List ℕ → Type 0
-Prints input printed = OutcomePrints LinePrints (first_line input) printed
-
--- the first 4,097 bytes of an input decide what is printed, and that is one thing
-pub record Determined : Type 0 where
-  pub front : (input printed : List ℕ) → Prints (take 4097 input) printed → Prints input printed
-  pub once : (input one other : List ℕ) → Prints input one → Prints input other → one ≡ other

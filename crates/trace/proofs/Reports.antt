@@ -21,8 +21,9 @@ use Rattle.trace_text.specs.Traces.{IsTrace, TraceOutcome, AxesFit, further, mov
 use Rattle.trace_text.specs.Traces.TraceOutcome.{long, malformed as stopped, short, read}
 use Rattle.trace_text.proofs.Outcomes.{one_meaning}
 use Rattle.word.specs.Calls.{factor_outcome, starts_of}
-use Rattle.console.proofs.Reports.{front_prints, line_prints, one_prints}
-use Rattle.trace.specs.Printed.{Determined, LinePrints, Prints, Rising, factor_lines, start_lines}
+use Rattle.console.specs.Reports.{Prints}
+use Rattle.console.proofs.Reports.{line_prints}
+use Rattle.trace.specs.Printed.{LinePrints, Rising, factor_lines, start_lines}
 use Rattle.trace.specs.Printed.LinePrints.{factored, malformed}
 use Rattle.trace.proofs.Lines.{lines_of_words, rising}
 
@@ -78,25 +79,11 @@ line_refused bs size f o (stopped p h s) e few room = let same : found 15 Text p
 line_refused bs size f o (short ms h g k) e few room = absurd (omega (arith, few_moves bs ms g))
 line_refused bs size f o (read ms h g k) e few room = absurd (let z : ◌≡◌ {A = ℕ} 0 1 = cc in omega arith)
 
-pub trace_printed : (input line : List ℕ) (size : ℕ) (ms : List Move) (starts : List ℕ) (n : ℕ) (printed : List ℕ) → Factorizations (reversed_order by_axis) → answered line ≡ first_line input → TraceOutcome line size (answered ms) → starts ≡ starts_of (reversed_order by_axis) ms → n ≡ length ms → printed ≡ start_lines starts n → Prints input printed
+pub trace_printed : (input line : List ℕ) (size : ℕ) (ms : List Move) (starts : List ℕ) (n : ℕ) (printed : List ℕ) → Factorizations (reversed_order by_axis) → answered line ≡ first_line input → TraceOutcome line size (answered ms) → starts ≡ starts_of (reversed_order by_axis) ms → n ≡ length ms → printed ≡ start_lines starts n → Prints LinePrints input printed
 trace_printed input line size ms starts n printed theory is told are many e =
     let all = e ∙ lines_of_factors (reversed_order by_axis) theory ms starts n are many in
     line_prints LinePrints input line printed is (subst (LinePrints line) (sym all) (factored ms (trace_read line size ms _ told refl).0))
 
-pub trace_refused : (input line : List ℕ) (size : ℕ) (f : Fault) → answered line ≡ first_line input → TraceOutcome line size (refused f) → size ≡ 1366 → Prints input (fault_line f.number)
+pub trace_refused : (input line : List ℕ) (size : ℕ) (f : Fault) → answered line ≡ first_line input → TraceOutcome line size (refused f) → size ≡ 1366 → Prints LinePrints input (fault_line f.number)
 trace_refused input line size f is told room =
     line_prints LinePrints input line _ is (line_refused line size f _ told refl (few_bytes input line is) (omega arith))
-
--- ---- one thing is printed
-
-one_line : (bs one other : List ℕ) → LinePrints bs one → LinePrints bs other → one ≡ other
-one_line bs one other (factored ms f) (factored ns g) = ap (λ l. factor_lines 0 (factors (reversed_order by_axis) l)) (one_meaning bs ms ns f g)
-one_line bs one other (factored ms f) (malformed p s) = absurd (means_or_stops IsTrace bs ms p f s)
-one_line bs one other (malformed p s) (factored ms f) = absurd (means_or_stops IsTrace bs ms p f s)
-one_line bs one other (malformed p s) (malformed q t) = refl
-
-pub determined : Determined
-determined = record {
-  front = front_prints LinePrints;
-  once = λ input one other. one_prints LinePrints one_line (first_line input) one other;
-}

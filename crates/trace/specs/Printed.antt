@@ -20,15 +20,6 @@ pub data LinePrints (bytes : List ℕ) : List ℕ → Type 0 where
   factored : (ms : List Move) → IsTrace bytes ms → LinePrints bytes (factor_lines 0 (factors (reversed_order by_axis) ms))
   malformed : (p : ℕ) → Stops IsTrace bytes p → LinePrints bytes (fault_line 15)
 
--- for an input: what its first line prints, or the fault with which that is refused
-abbrev pub Prints : List ℕ → List ℕ → Type 0
-Prints input printed = OutcomePrints LinePrints (first_line input) printed
-
--- the first 4,097 bytes of an input decide what is printed, and that is one thing
-pub record Determined : Type 0 where
-  pub front : (input printed : List ℕ) → Prints (take 4097 input) printed → Prints input printed
-  pub once : (input one other : List ℕ) → Prints input one → Prints input other → one ≡ other
-
 -- ---- by starts
 
 -- the first of some starts, or n where there are none

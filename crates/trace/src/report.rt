@@ -1,8 +1,7 @@
 //! What the program prints for an input.
-ghost use Rattle.std.specs.Prelude.{◌≡◌, ◌++◌, IfOk, MatchResult, OnOk};
-ghost use Rattle.console.specs.Reports.{StopPrints};
+ghost use Rattle.std.specs.Prelude.{◌≡◌, ◌++◌, IfOk, OnOk};
 ghost use Rattle.text.specs.Lines.{factor_line};
-ghost use Rattle.trace.specs.Printed.{Determined, LinePrints, Prints, Rising, start_lines};
+ghost use Rattle.trace.specs.Printed.{LinePrints, Rising, start_lines};
 
 use console::{Program, Stop};
 use lent_list::LentList;
@@ -15,20 +14,20 @@ use word::factor;
 /// A line of 4,096 bytes has no more moves: each takes two bytes, and a space but for the first.
 const MOST: usize = 1_366;
 
+/// The most bytes that the line of a factor has, and some more.
+const LONGEST: usize = 16;
+
 /// The program that prints the factors of a trace.
 pub struct Trace;
 
 impl Program for Trace {
-    ghost use Rattle.console.proofs.Reports.{front_prints};
+    ghost use Rattle.trace.specs.OneLine.{one_line};
 
-    ghost prints = { Prints };
+    ghost prints = { LinePrints };
 
     /// A line for each factor of the trace in the first line of an input, under the reversed order.
-    #[tactic(auto, using(crate::proofs::Reports::trace_refused, crate::proofs::Reports::factors_fit, crate::proofs::Reports::rising_factors, crate::proofs::Reports::trace_printed, crate::proofs::Reports::determined))]
-    fn lines(&self, heap: Global, input: &[u8]) -> Result<Vec<u8>, Stop>
-        ensures printed { MatchResult result (λ lines. Prints input.now lines.items) (StopPrints (Prints input.now)) }
-        ensures determined { Determined }
-    {
+    #[tactic(auto, using(crate::proofs::Reports::trace_refused, crate::proofs::Reports::factors_fit, crate::proofs::Reports::rising_factors, crate::proofs::Reports::trace_printed))]
+    fn lines(&self, heap: Global, input: &[u8]) -> Result<Vec<u8>, Stop> {
         let line = first_line(input)?;
         let mut memory = [Move::default(); MOST];
         let mut moves = LentList::new(&mut memory);
@@ -39,7 +38,7 @@ impl Program for Trace {
         Ok(start_lines(heap, starts.items(), count as u16)?)
     }
 
-    ghost front = { front_prints LinePrints };
+    ghost once = { one_line };
 }
 
 /// A line for each factor, by where they start and the place behind them all.
@@ -62,9 +61,8 @@ fn start_lines(heap: Global, starts: &[u16], end: u16) -> Result<Vec<u8>, AllocE
 fn push_line(lines: &mut Vec<u8>, start: u16, size: u16) -> Result<(), AllocError>
     ensures { OnOk result (lines.new.items ≡ lines.old.items ++ factor_line start size) }
 {
-    // lines are put alike: one public function for all would ask that a closure may be called, and public ones ask nothing
-    // no line of a factor is longer
-    let mut line = [0; 16];
+    // written into a lent buffer, as `console::fault_report` says
+    let mut line = [0; LONGEST];
     let count = write_factor_line(start, size, &mut line).unwrap();
     lines.extend_from_slice(&line[..count])
 }

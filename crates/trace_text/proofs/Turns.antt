@@ -19,9 +19,6 @@ use Rattle.trace_text.specs.declared.token.Marks.{Marks}
 use Rattle.text.proofs.Reading.{leads_stay, leads_then, halts_end}
 use Rattle.trace_text.proofs.Tracing.{ends_here, goes_on, short_here}
 
-pub onward_start : (r : Reader) → Onward r [] r
-onward_start r = record { text = refl; leads = leads_stay Rest (text_of r) (place_of r) r.state }
-
 pub early_one : (s : State) → early s ≤ 1
 early_one Start = omega arith
 early_one Next = omega arith

@@ -1,7 +1,7 @@
 //! Reading a trace: its marks one by one, in a state that says what may follow.
 ghost use Rattle.std.specs.Prelude.{◌≡◌, ◌+◌, ◌<◌, ◌≤◌, ◌⊎◌, ◌^◌, List, [], ◌∷◌, length, IfOk, Some, Ok, Decides, MatchResult};
 ghost use Rattle.faults.specs.Outcome.{told};
-ghost use Rattle.lent_list.specs.Lent.{places, items, over, SameMemory};
+ghost use Rattle.lent_list.specs.Lent.{places, items, Refilled};
 ghost use Rattle.text.specs.Faults.{text_fault};
 ghost use Rattle.text.specs.Digits.{AllDigits};
 ghost use Rattle.trace_text.specs.Tokens.{Marked};
@@ -43,8 +43,8 @@ fn sense_of(bytes: &[u8]) -> Sense
     requires { (bytes.now ≡ 43 ∷ []) ⊎ (bytes.now ≡ 45 ∷ []) }
     ensures { bytes.now ≡ sign result ∷ [] }
 {
-    match bytes[0] as char {
-        '+' => Sense::Forward,
+    match bytes[0] {
+        b'+' => Sense::Forward,
         _ => Sense::Reverse,
     }
 }
@@ -97,7 +97,7 @@ impl<'a> Reader<'a> {
         ensures marks { self.new.marks ≡ self.old.marks }
         ensures done { Stepped mark.entry.place self.old self.new result }
     {
-        // state and token together, and no function for each state: so one sees what may follow what
+        // state and token together, and no function for each state, so that one sees what may follow what
         match (self.state, mark.token) {
             (State::Start | State::Next, Token::Sign(bytes)) => {
                 self.state = State::Axis(sense_of(bytes));
@@ -161,11 +161,11 @@ fn fill(text: &[u8], moves: &mut LentList<Move>) -> Result<(), TextFault>
     ensures done { result ≡ Ok tt }
     ensures moves { IsTrace text.now (items moves.new) }
     ensures within { length (items moves.new) ≤ length (places moves.old) }
-    ensures memory { places moves.new ≡ over (items moves.new) (places moves.old) }
-    ensures lender { SameMemory moves.old moves.new }
+    ensures memory { Refilled moves.old moves.new (items moves.new) }
 {
     moves.clear();
     for next in Reader::new(text) {
+        // there is room
         let _ = moves.push(next?);
     }
     Ok(())
@@ -177,8 +177,7 @@ fn fill(text: &[u8], moves: &mut LentList<Move>) -> Result<(), TextFault>
 pub fn read_trace(text: &[u8], moves: &mut LentList<Move>) -> Result<usize, TextFault>
     ensures outcome { TraceOutcome text.now (length (places moves.old)) (told (λ _. items moves.new) text_fault result) }
     ensures count { IfOk result (λ n. n ≡ length (items moves.new)) }
-    ensures memory { MatchResult result (λ _. places moves.new ≡ over (items moves.new) (places moves.old)) (λ _. moves.new ≡ moves.old) }
-    ensures lender { SameMemory moves.old moves.new }
+    ensures memory { MatchResult result (λ _. Refilled moves.old moves.new (items moves.new)) (λ _. moves.new ≡ moves.old) }
     ensures one { OneOutcome }
 {
     if text.len() > LONGEST {

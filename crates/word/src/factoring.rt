@@ -1,7 +1,7 @@
 //! The factors of a word.
 ghost use Rattle.std.specs.Prelude.{◌≡◌, ◌+◌, ◌*◌, ◌<◌, ◌≤◌, ◌++◌, length, MatchResult, nat_le};
 ghost use Rattle.faults.specs.Outcome.{told};
-ghost use Rattle.lent_list.specs.Lent.{items, places, over, SameMemory};
+ghost use Rattle.lent_list.specs.Lent.{items, places, Refilled};
 ghost use Rattle.lyndon.specs.Factoring.{factors};
 ghost use Rattle.lyndon.specs.Theorems.{Factorizations};
 ghost use Rattle.word.specs.Calls.{shown, cut_behind, first_outcome, factor_outcome, starts_of, paced};
@@ -33,10 +33,8 @@ pub fn factor<L, O: Order<L>>(
 ) -> Result<usize, WordFault>
     ensures answer { told (λ n. n) word_fault result ≡ factor_outcome (O.ranks order.now) word.now (length (places starts.old)) }
     ensures starts { MatchResult result
-        (λ _. (items starts.new ≡ starts_of (O.ranks order.now) word.now)
-        × (places starts.new ≡ over (starts_of (O.ranks order.now) word.now) (places starts.old)))
+        (λ _. Refilled starts.old starts.new (starts_of (O.ranks order.now) word.now))
         (λ _. starts.new ≡ starts.old) }
-    ensures lender { SameMemory starts.old starts.new }
     ensures factorizations { Factorizations (O.ranks order.now) }
 {
     check_longest(word.len())?;
@@ -66,18 +64,16 @@ fn fits<L, O: Order<L>>(order: &O, word: &[L], size: usize) -> bool
 fn count_factors<L, O: Order<L>>(order: &O, word: &[L]) -> usize
     ensures { result ≡ length (factors (O.ranks order.now) word.now) }
 {
-    Runs::of(order, word).map(|(_, run)| run.count).sum()
+    Runs::new(order, word).map(|(_, run)| run.count).sum()
 }
 
 /// Puts the starts of equal factors, the first of which begins at `from`, behind the others.
 fn push_starts(starts: &mut LentList<u16>, from: usize, run: Run)
     requires last { from + run.count * run.period ≤ 65535 }
     requires room { length (items starts.old) + run.count ≤ length (places starts.old) }
-    ensures items { items starts.new ≡ items starts.old ++ paced from run.period run.count }
-    ensures places { places starts.new ≡ over (items starts.new) (places starts.old) }
-    ensures lender { SameMemory starts.old starts.new }
+    ensures { Refilled starts.old starts.new (items starts.old ++ paced from run.period run.count) }
 {
-    // by a number and not by `step_by`, which would ask that a period is not 0, and says no more
+    // by number: that a start is a place and so many periods says as much as `step_by`, which could overflow
     for i in 0..run.count {
         // there is room
         let _ = starts.push((from + i * run.period) as u16);
@@ -89,12 +85,10 @@ fn list_starts<L, O: Order<L>>(order: &O, word: &[L], starts: &mut LentList<u16>
     requires few { length word.now ≤ 65535 }
     requires room { length (factors (O.ranks order.now) word.now) ≤ length (places starts.old) }
     ensures count { result ≡ length (factors (O.ranks order.now) word.now) }
-    ensures items { items starts.new ≡ starts_of (O.ranks order.now) word.now }
-    ensures places { places starts.new ≡ over (starts_of (O.ranks order.now) word.now) (places starts.old) }
-    ensures lender { SameMemory starts.old starts.new }
+    ensures starts { Refilled starts.old starts.new (starts_of (O.ranks order.now) word.now) }
 {
     starts.clear();
-    for (from, run) in Runs::of(order, word) {
+    for (from, run) in Runs::new(order, word) {
         push_starts(starts, from, run);
     }
     starts.count()

@@ -52,7 +52,7 @@ pub(crate) fn leading_run<L, O: Order<L>>(order: &O, word: &[L]) -> Option<Run>
 }
 
 /// The runs of equal factors of a word, each with the place where it begins.
-// Elsewhere an order and a word are two parameters: no fact binds them, and a struct would only be built and taken apart.
+// elsewhere an order and a word are two parameters: no fact binds them, and a struct would only be built and taken apart
 #[derive(Drop)]
 pub(crate) struct Runs<'a, L, O> {
     order: &'a O,
@@ -62,7 +62,8 @@ pub(crate) struct Runs<'a, L, O> {
 }
 
 impl<'a, L, O: Order<L>> Runs<'a, L, O> {
-    pub fn of(order: &'a O, word: &'a [L]) -> Self
+    /// The runs of a whole word.
+    pub(crate) fn new(order: &'a O, word: &'a [L]) -> Self
         ensures order { result.order.now ≡ order.now }
         ensures word { result.word.now ≡ word.now }
         ensures from { result.from ≡ 0 }

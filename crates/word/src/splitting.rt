@@ -49,6 +49,6 @@ fn last_factor<L, O: Order<L>>(order: &O, word: &[L]) -> Option<usize>
         (word.now ≡ [])
         (λ place. (place ≡ ahead (O.ranks order.now) word.now) × (place < length word.now)) }
 {
-    let (from, run) = Runs::of(order, word).last()?;
+    let (from, run) = Runs::new(order, word).last()?;
     Some(from + (run.count - 1) * run.period)
 }

@@ -1,7 +1,7 @@
 //! The pieces of a line, put one behind another.
 ghost use Rattle.std.specs.Prelude.{◌≡◌, ◌+◌, ◌<◌, ◌≤◌, ◌++◌, length, MatchBool, MatchResult};
 ghost use Rattle.faults.specs.Outcome.{told};
-ghost use Rattle.lent_list.specs.Lent.{items, places, over, SameMemory};
+ghost use Rattle.lent_list.specs.Lent.{items, places, Refilled};
 ghost use Rattle.text.specs.Faults.{text_fault};
 ghost use Rattle.text.specs.Lines.{written, left};
 ghost use Rattle.text.specs.Pieces.{bytes_of, bytes_of_all};
@@ -11,7 +11,7 @@ use itoa::Buffer;
 use lent_list::{Full, LentList};
 
 /// A piece of a line.
-#[derive(Clone, Copy)]
+#[derive(Clone, Copy, PartialEq, Eq, Debug)]
 pub enum Piece<'a> {
     /// Bytes, as they stand.
     Bytes(&'a [u8]),
@@ -34,12 +34,10 @@ impl<'a> Piece<'a> {
 
     /// Puts it behind the bytes of a line.
     fn put(self, line: &mut LentList<u8>) -> Result<(), Full>
-        ensures done { MatchResult result
+        ensures { MatchResult result
             (λ _. (length (items line.old) + length (bytes_of self.entry) ≤ length (places line.old))
-            × (items line.new ≡ items line.old ++ bytes_of self.entry)
-            × (places line.new ≡ over (items line.old ++ bytes_of self.entry) (places line.old)))
+            × Refilled line.old line.new (items line.old ++ bytes_of self.entry))
             (λ _. length (places line.old) < length (items line.old) + length (bytes_of self.entry)) }
-        ensures lender { SameMemory line.old line.new }
     {
         match self {
             Piece::Bytes(bytes) => line.extend_from_slice(bytes),
@@ -67,12 +65,10 @@ fn have_room(pieces: &[Piece], places: usize) -> bool
 /// Puts all of the pieces behind the bytes of a line.
 #[tactic(auto, using(crate::proofs::Putting::no_room))]
 fn put_all(pieces: &[Piece], line: &mut LentList<u8>) -> Result<(), Full>
-    ensures done { MatchResult result
+    ensures { MatchResult result
         (λ _. (length (items line.old) + length (bytes_of_all pieces.now) ≤ length (places line.old))
-        × (items line.new ≡ items line.old ++ bytes_of_all pieces.now)
-        × (places line.new ≡ over (items line.old ++ bytes_of_all pieces.now) (places line.old)))
+        × Refilled line.old line.new (items line.old ++ bytes_of_all pieces.now))
         (λ _. length (places line.old) < length (items line.old) + length (bytes_of_all pieces.now)) }
-    ensures lender { SameMemory line.old line.new }
 {
     for piece in pieces {
         piece.put(line)?;

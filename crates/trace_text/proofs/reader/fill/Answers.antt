@@ -1,4 +1,4 @@
-use Rattle.std.proofs.Common.{◌<◌, [], ◌∷◌, ◌++◌, length, Some, Ok, Err, ap, ◌∙◌, arith}
+use Rattle.std.proofs.Common.{◌<◌, [], ◌∷◌, ◌++◌, length, Some, Ok, Err, refl, ap, ◌∙◌, arith}
 use Rattle.std.proofs.lemmas.List.{length_push}
 use Rattle.lent_list.specs.Lent.{items, places}
 use Rattle.lent_list.proofs.Filling.{put_more}
@@ -18,13 +18,12 @@ loop-next-preserved c =
     let few = front c.args.text.now (w ++ m ∷ []) c.next.new.self c.next.new.self on c.requires.0 c.requires.1 in
     let size = ap length c.clear.ensures.places in
     let room : length w < length (places c.clear.new.self) = omega (arith, c.requires.2, length_push w m) in
-    let put = put_more (places c.clear.new.self) w (places c.loop-next.moves) (items c.push.new.self) (places c.push.new.self) m _ c.push.result inv.memory room c.push.ensures.done in
+    let put = put_more (places c.clear.new.self) w (places c.loop-next.moves) (items c.push.new.self) (places c.push.new.self) m _ c.push.result inv.memory.1 room c.push.ensures.done in
     record {
       can_next = tt;
       is_finite = tt;
       moves = rw put.0 on;
-      memory = put.1;
-      lender = c.push.ensures.lender ∙ inv.lender;
+      memory = (refl, put.1, c.push.ensures.lender ∙ inv.memory.2);
     }
 
 pub returns-in_err-next : goal.returns-in_err-next

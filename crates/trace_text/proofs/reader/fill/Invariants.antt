@@ -1,5 +1,4 @@
-use Rattle.std.proofs.Common.{◌≡◌}
-use Rattle.lent_list.specs.Lent.{items, places, over}
+use Rattle.lent_list.specs.Lent.{items, Refilled}
 use Rattle.trace_text.specs.States.{HasRead}
 use Rattle.trace_text.proofs.reader.fill.Given as goal
 
@@ -9,6 +8,5 @@ invariant-loop-next l = record {
   can_next : goal.iterator-loop-next.can_next l.next-iterator;
   is_finite : goal.iterator-loop-next.is_finite l.next-iterator;
   moves : HasRead l.text (items l.moves) l.next-iterator;
-  memory : places l.moves ≡ over (items l.moves) (places l.initial.moves);
-  lender : l.moves.memory.ghost_name ≡ l.initial.moves.memory.ghost_name;
+  memory : Refilled l.initial.moves l.moves (items l.moves);
 }

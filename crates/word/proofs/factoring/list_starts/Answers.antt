@@ -1,4 +1,4 @@
-use Rattle.std.proofs.Common.{◌++◌, length, ap, ◌∙◌, arith, length-append}
+use Rattle.std.proofs.Common.{◌++◌, length, sym, ap, ◌∙◌, arith, length-append}
 use Rattle.lent_list.specs.Lent.{items, places, over}
 use Rattle.lent_list.proofs.Filling.{length_over, over-over}
 use Rattle.lyndon.specs.Factoring.{factors}
@@ -27,9 +27,9 @@ loop-from-preserved g c =
     let pushed = c.push_starts.ensures in (
       p.within,
       c.in-Some.ensures.steps.3 ∙ l.invariant.1,
-      listed_more g.O.Order.ranks l.from-iterator was _ l.invariant.2 c.in-Some.run' c.next.new.self now p (pushed.items ∙ ap (λ n. was ++ paced n c.in-Some.run'.period c.in-Some.run'.count) c.in-Some.ensures.steps.0),
-      pushed.places ∙ ap (over now) l.invariant.3 ∙ over-over (places c.clear.new.self) was now (omega (arith, ap length pushed.items, length-append was (paced c.in-Some.from c.in-Some.run'.period c.in-Some.run'.count))),
-      pushed.lender ∙ l.invariant.4,
+      listed_more g.O.Order.ranks l.from-iterator was _ l.invariant.2 c.in-Some.run' c.next.new.self now p (pushed.0 ∙ ap (λ n. was ++ paced n c.in-Some.run'.period c.in-Some.run'.count) c.in-Some.ensures.steps.0),
+      pushed.1 ∙ ap (λ z. over z (places l.starts)) (sym pushed.0) ∙ ap (over now) l.invariant.3 ∙ over-over (places c.clear.new.self) was now (omega (arith, ap length pushed.0, length-append was (paced c.in-Some.from c.in-Some.run'.period c.in-Some.run'.count))),
+      pushed.2 ∙ l.invariant.4,
     )
 
 pub returns-clause-count : goal.returns-clause-count

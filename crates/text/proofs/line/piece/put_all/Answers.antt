@@ -5,8 +5,8 @@ use Rattle.text.proofs.line.piece.put_all.Goals as goal
 
 pub loop-piece-preserved : goal.loop-piece-preserved
 loop-piece-preserved c = (
-  grind (arith, common_steps, c.in_ok-put.ensures.done),
-  grind (arith, common_steps, fills, c.in_ok-put.ensures.done),
-  grind (arith, common_steps, fills, c.in_ok-put.ensures.done),
+  grind (arith, common_steps, c.in_ok-put.ensures),
+  grind (arith, common_steps, fills, c.in_ok-put.ensures),
+  grind (arith, common_steps, fills, c.in_ok-put.ensures),
   grind (arith, common_steps),
 )
