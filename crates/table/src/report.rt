@@ -29,7 +29,7 @@ impl Program for Brackets {
         let mut memory = [Entry::default(); MOST];
         let mut table = Table::fresh(&mut memory);
         table
-            .open(u64::from(numbers.k), u64::from(numbers.n))
+            .open(numbers.k as u64, numbers.n as u64)
             .map_err(Fault::from)?;
         Ok(table_lines(heap, numbers, &mut table)?)
     }
