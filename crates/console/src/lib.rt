@@ -158,7 +158,7 @@ mod tests {
     struct Echo;
 
     impl Program for Echo {
-        ghost use Rattle.std.specs.Prelude.{sym, ◌∙◌};
+        ghost use Rattle.std.proofs.Common.{sym, ◌∙◌};
 
         ghost prints = { λ line printed. printed ≡ line };
 
