@@ -67,7 +67,7 @@ impl<'a> Table<'a> {
     }
 
     /// The entry that has this number.
-    // by `&mut`, as the rules have it of every call on a table; `same` says that nothing changes
+    // by `&mut`, as `find` and `line` too, so that the calls on a table have one form; `same` says that nothing changes
     #[tactic(auto, using(crate::proofs::Growing::table_sound))]
     pub fn look(&mut self, number: usize) -> Result<Entry, TableFault>
         ensures outcome { told (λ e. e) table_fault result ≡ look_outcome (view self.old) number }

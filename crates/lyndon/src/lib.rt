@@ -14,6 +14,7 @@ use letter_order::Order;
 use std::cmp::Ordering;
 
 /// Dictionary order of two words. It is an order of words as `order` is one of letters.
+#[tactic(auto, using(crate::proofs::Dictionary::dictionary_total))]
 pub fn compare_words<L, O: Order<L>>(order: &O, u: &[L], v: &[L]) -> Ordering
     ensures answer { result ≡ dictionary (O.ranks order.now) u.now v.now }
     ensures total { TotalOrder (dictionary (O.ranks order.now)) }
@@ -22,10 +23,9 @@ pub fn compare_words<L, O: Order<L>>(order: &O, u: &[L], v: &[L]) -> Ordering
 }
 
 /// What the letters of two words decide, up to the end of the shorter word.
-#[tactic(auto, using(crate::proofs::Dictionary::dictionary_total, crate::proofs::Comparing::ended, crate::proofs::Comparing::decides_alone))]
+#[tactic(auto, using(crate::proofs::Comparing::decides_alone))]
 fn compare_letters<L, O: Order<L>>(order: &O, u: &[L], v: &[L]) -> Ordering
-    ensures answer { ordering_then result (by_value (length u.now) (length v.now)) ≡ dictionary (O.ranks order.now) u.now v.now }
-    ensures total { TotalOrder (dictionary (O.ranks order.now)) }
+    ensures { ordering_then result (by_value (length u.now) (length v.now)) ≡ dictionary (O.ranks order.now) u.now v.now }
 {
     for (x, y) in u.iter().zip(v) {
         match order.compare(x, y) {

@@ -18,6 +18,8 @@ fault_line number = codes "fault " ++ (decimal number ++ 10 ∷ [])
 abbrev pub header_line : ℕ → ℕ → ℕ → List ℕ
 header_line k n count = decimal k ++ (32 ∷ (decimal n ++ (32 ∷ (decimal count ++ 10 ∷ []))))
 
+-- A line is written by what the call answers and by what stands in the buffer then: each contract says both, in a word each.
+
 -- how many bytes are written into a buffer, which may be too short
 abbrev pub written : List ℕ → List ℕ → Outcome ℕ
 written bytes buffer = refuse_if (nat_lt (length buffer) (length bytes)) (found 7 Text 0 0) (answered (length bytes))

@@ -52,6 +52,7 @@ pub(crate) fn leading_run<L, O: Order<L>>(order: &O, word: &[L]) -> Option<Run>
 }
 
 /// The runs of equal factors of a word, each with the place where it begins.
+// the whole word and a place, and not what is left of it: a run is told with its place;
 // elsewhere an order and a word are two parameters: no fact binds them, and a struct would only be built and taken apart
 #[derive(Drop)]
 pub(crate) struct Runs<'a, L, O> {
