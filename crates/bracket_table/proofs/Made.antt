@@ -4,7 +4,6 @@ use Rattle.std.specs.List.{AllByRecursion, position_from}
 use Rattle.std.proofs.lemmas.Bool.{cases_Bool, cases_eq, eq-eqb, ne_eqb}
 use Rattle.std.proofs.ByRecursion.{All-get_or}
 use Rattle.std.proofs.lemmas.List.{length-drop, length-take}
-use Rattle.lyndon.specs.declared.entry.Entry.{Entry}
 use Rattle.lyndon.specs.Codes.{code, spelled}
 use Rattle.lyndon.proofs.Codes.{length-spelled, code-spelled, cut_within}
 use Rattle.lyndon.specs.Listing.{OfShape}

@@ -31,7 +31,8 @@ pub enum TableFault {
 }
 
 /// Its number, with the layer that found it and those that passed it up.
-// a `match` for each layer, whose faults are others; by hand, as each `From` here: what a derive writes has no contract, and clauses say what a conversion gives
+// a `match` for each layer, whose faults are others; by hand, as each `From` here: what a derive writes has no contract,
+// and clauses say what a conversion gives
 impl From<TableFault> for Fault {
     ghost from_gives = { λ refused fault. fault ≡ table_fault refused };
 

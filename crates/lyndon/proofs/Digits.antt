@@ -7,7 +7,7 @@ use Rattle.lyndon.specs.Words.{Before}
 use Rattle.letter_order.specs.Orders.{by_value}
 use Rattle.lyndon.specs.Codes.{Over, code, spelled}
 use Rattle.lyndon.proofs.Dictionary.{asym, prefix, apart_before, apart_append, before_apart}
-use Rattle.lyndon.proofs.Codes.{by_value_total, code_below, code_down, code_same, code-spelled, spelled-code, spelled-over, length-spelled, lyndon_says, says_lyndon, cut_within, cut_splits, over-take, over-drop}
+use Rattle.lyndon.proofs.Codes.{by_value_total, code_below, code_down, code_same, code-spelled, spelled-over, length-spelled, lyndon_says, says_lyndon, cut_within, cut_splits, over-take, over-drop}
 use Rattle.lyndon.specs.Listing.{lyndon}
 use Rattle.lyndon.specs.Entries.{cut}
 

@@ -1,5 +1,5 @@
 -- What the parts of a report come to.
-use Rattle.std.proofs.Common.{◌≡◌, ℕ, List, [], ◌∷◌, true, Ok, Err, Result, MatchResult, is_ok, sym, refl, ap, ◌∙◌, subst, arith}
+use Rattle.std.proofs.Common.{◌≡◌, ℕ, List, [], ◌∷◌, true, Ok, Err, Result, MatchResult, is_ok, sym, refl, ap, subst, arith}
 use Rattle.std.specs.Result.{IsErrAnd}
 use Rattle.std.proofs.lemmas.Bool.{false≢true}
 use Rattle.faults.specs.declared.Fault.{Fault}
@@ -9,17 +9,15 @@ use Rattle.faults.specs.Outcome.{Outcome, told}
 use Rattle.faults.specs.Outcome.Outcome.{answered, refused}
 use Rattle.text.specs.Input.{first_line}
 use Rattle.text.specs.Lines.{fault_line}
-use Rattle.text.proofs.Reading.{means_or_stops}
 use Rattle.input_text.specs.declared.shape.Numbers.{Numbers}
 use Rattle.input_text.specs.Shapes.{IsShape, ShapeOutcome}
 use Rattle.input_text.specs.Shapes.ShapeOutcome.{read, malformed as stopped}
-use Rattle.input_text.proofs.Outcomes.{one_meaning}
 use Rattle.bracket_table.specs.Faults.{table_fault}
 use Rattle.bracket_table.specs.Views.{shape_checked}
 use Rattle.bracket_table.specs.declared.fault.TableFault.{TableFault}
-use Rattle.table.specs.Printed.{LinePrints, ShapePrints, printed_table}
+use Rattle.table.specs.Printed.{LinePrints, printed_table}
 use Rattle.console.specs.Reports.{OutcomePrints, Prints}
-use Rattle.console.proofs.Reports.{line_prints, one_prints}
+use Rattle.console.proofs.Reports.{line_prints}
 use Rattle.table.specs.Printed.LinePrints.{shape, malformed}
 
 -- ---- lines

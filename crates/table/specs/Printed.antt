@@ -1,8 +1,7 @@
 -- What the program prints.
-use Rattle.std.specs.Prelude.{◌≡◌, ℕ, ◌+◌, List, [], ◌∷◌, ◌++◌, length, take}
+use Rattle.std.specs.Prelude.{◌≡◌, ℕ, ◌+◌, List, [], ◌∷◌, ◌++◌, length}
 use Rattle.lyndon.specs.declared.entry.Entry.{Entry}
 use Rattle.lyndon.specs.Entries.{listing}
-use Rattle.text.specs.Input.{first_line}
 use Rattle.text.specs.Lines.{fault_line, header_line}
 use Rattle.text.specs.Reading.{Stops}
 use Rattle.input_text.specs.Shapes.{IsShape}

@@ -20,7 +20,8 @@ pub enum TextFault {
 }
 
 /// Its number, with the layer that found it and those that passed it up.
-// a `match` for each layer, whose faults are others; by hand, as each `From` here: what a derive writes has no contract, and clauses say what a conversion gives
+// a `match` for each layer, whose faults are others; by hand, as each `From` here: what a derive writes has no contract,
+// and clauses say what a conversion gives
 impl From<TextFault> for Fault {
     ghost from_gives = { λ refused fault. fault ≡ text_fault refused };
 

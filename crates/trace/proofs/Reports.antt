@@ -16,10 +16,8 @@ use Rattle.lyndon.specs.Theorems.{Factorizations}
 use Rattle.lyndon.proofs.Factorization.{few_words}
 use Rattle.text.specs.Input.{first_line, line as line_of}
 use Rattle.text.specs.Lines.{fault_line}
-use Rattle.text.proofs.Reading.{means_or_stops}
 use Rattle.trace_text.specs.Traces.{IsTrace, TraceOutcome, AxesFit, further, move_text}
 use Rattle.trace_text.specs.Traces.TraceOutcome.{long, malformed as stopped, short, read}
-use Rattle.trace_text.proofs.Outcomes.{one_meaning}
 use Rattle.word.specs.Calls.{factor_outcome, starts_of}
 use Rattle.console.specs.Reports.{Prints}
 use Rattle.console.proofs.Reports.{line_prints}

@@ -1,14 +1,12 @@
 -- What the program prints.
-use Rattle.std.specs.Prelude.{◌≡◌, ℕ, ◌+◌, ◌-◌, ◌≤◌, List, [], ◌∷◌, ◌++◌, length, take}
+use Rattle.std.specs.Prelude.{ℕ, ◌+◌, ◌-◌, ◌≤◌, List, [], ◌∷◌, ◌++◌, length}
 use Rattle.letter_order.specs.Moves.{by_axis}
 use Rattle.letter_order.specs.Orders.{reversed_order}
 use Rattle.letter_order.specs.declared.moves.Move.{Move}
 use Rattle.lyndon.specs.Factoring.{factors}
-use Rattle.text.specs.Input.{first_line}
 use Rattle.text.specs.Lines.{factor_line, fault_line}
 use Rattle.text.specs.Reading.{Stops}
 use Rattle.trace_text.specs.Traces.{IsTrace}
-use Rattle.console.specs.Reports.{OutcomePrints}
 
 -- a line for each of the words that stand one behind the other from a place on: its start and its length
 abbrev pub factor_lines : {A : Type 0} → ℕ → List (List A) → List ℕ
