@@ -4,8 +4,6 @@ use borrow.Author.Tests.{clash}
 use Rattle.std.specs.Ordering.{is_eq}
 use Rattle.std.specs.List.{AllByRecursion, position_from}
 use Rattle.std.proofs.lemmas.Bool.{cases_Bool, and_from, and_parts, eq-eqb, eqb-true, both_ways}
-use Rattle.faults.specs.declared.Layer.TheVariants as layer
-use Rattle.faults.specs.Faults.{passed}
 use Rattle.faults.specs.Outcome.{Outcome, checked}
 use Rattle.faults.specs.Outcome.Outcome.{answered, refused}
 use Rattle.coded_word.specs.declared.coded.Cursor.{Cursor}

@@ -18,9 +18,9 @@ use Rattle.coded_word.specs.declared.coded.CodedWord.{CodedWord}
 use Rattle.coded_word.specs.declared.coded.Cursor.{Cursor}
 use Rattle.coded_word.specs.Scan.{FirstFrom}
 use Rattle.bracket_table.specs.Calls.{grow_in, grow_outcome, grown, listing_of}
-use Rattle.bracket_table.specs.Held.{entries_in, keys_in, rest_in}
+use Rattle.bracket_table.specs.Held.{entries_in, keys_in, rest_in, IsNext}
 use Rattle.bracket_table.specs.declared.Table.{Table}
-use Rattle.bracket_table.specs.Search.{made, spot}
+use Rattle.bracket_table.specs.Search.{made, spot, entry_for}
 use Rattle.bracket_table.specs.Seen.{dimensions, view, Adds, Sound}
 use Rattle.bracket_table.specs.Views.{Dimensions, View}
 use Rattle.bracket_table.proofs.Made.{made_next}
@@ -132,16 +132,13 @@ module _ (s : Option Cursor) (x : Cursor) (is : s ≡ Some x) (es : List Entry) 
           pub grown_holds : y.length ≡ w.length → y.code ≡ w.code + 1 → Holds (Some y) es'
           grown_holds a b = rw (a, b, size, shapes) (put ∙ sym one_more, (next.2, tt))
 
-          pub grown_view : (room room' : ℕ) → length es < room → room' ≡ room → ◌≡◌ {A = View} (record { shape = dimensions (Some y); entries = es'; room = room' }) (grown (grow_in (dimensions s) (length es) room) (record { shape = dimensions s; entries = es; room = room }))
-          grown_view room room' h q =
-              subst (λ o. ◌≡◌ {A = View} (record { shape = dimensions (Some y); entries = es'; room = room' }) (grown o (record { shape = dimensions s; entries = es; room = room }))) (accepted room h)
-              (λ i. record { shape = d i; entries = p i; room = q i })
-            where
-              d : dimensions (Some y) ≡ dimensions s
-              d = ap (λ z. Some (record { k = z.k; n = z.n })) shapes ∙ sym (ap dimensions is)
-
-              p : es' ≡ es ++ get_or (listing_of (dimensions s)) (length es) no_entry ∷ []
-              p = put ∙ ap (λ z. es ++ z ∷ []) (new ∙ sym (ap (λ z. get_or (listing_of (dimensions z)) (length es) no_entry) is))
+        pub grown_view : (d : Option Dimensions) → d ≡ dimensions s → (room room' : ℕ) → length es < room → room' ≡ room → ◌≡◌ {A = View} (record { shape = d; entries = es'; room = room' }) (grown (grow_in (dimensions s) (length es) room) (record { shape = dimensions s; entries = es; room = room }))
+        grown_view d D room room' h q =
+            subst (λ o. ◌≡◌ {A = View} (record { shape = d; entries = es'; room = room' }) (grown o (record { shape = dimensions s; entries = es; room = room }))) (accepted room h)
+            (λ i. record { shape = D i; entries = p i; room = q i })
+          where
+            p : es' ≡ es ++ get_or (listing_of (dimensions s)) (length es) no_entry ∷ []
+            p = put ∙ ap (λ z. es ++ z ∷ []) (new ∙ sym (ap (λ z. get_or (listing_of (dimensions z)) (length es) no_entry) is))
 
 -- ---- at any time
 
@@ -195,21 +192,36 @@ module _ (t : Table) (x : Cursor) (is : t.next ≡ Some x) (r : Option CodedWord
       unfolding Adds
       grow_first i at d q = rw at (grown_adds t.next x is (items t.entries) t.listed t.missing w found_w e made_so (items l) put d q)
 
-      module _ (y : Cursor) (same : y.shape ≡ w.shape) where
-        module _ (size : y.length ≡ w.length) (behind : y.code ≡ w.code + 1) where
-          holds : Holds (Some y) (items l)
-          holds = grown_holds t.next x is (items t.entries) t.listed t.missing w found_w e made_so (items l) put y same size behind
+      pub grow_view : (d : Option Dimensions) → d ≡ dimensions t.next → length (items t.entries) < length (places t.entries) → places l ≡ set (places t.entries) (length (items t.entries)) e → ◌≡◌ {A = View} (record { shape = d; entries = items l; room = length (places l) }) (grown (grow_outcome (view t)) (view t))
+      grow_view d D room there =
+          grown_view t.next x is (items t.entries) t.listed t.missing w found_w e made_so (items l) put d D (length (places t.entries)) (length (places l)) room
+          (ap length there ∙ length-set (places t.entries) (length (items t.entries)) e)
 
-          pub grow_listed : items l ≡ take (length (items l)) (entries_in (Some y))
-          grow_listed = holds.0
-
-          pub grow_missing : drop (length (items l)) (keys_in (Some y)) ≡ rest_in (Some y)
-          grow_missing = holds.1.0
-
-        pub grow_view : length (items t.entries) < length (places t.entries) → places l ≡ set (places t.entries) (length (items t.entries)) e → ◌≡◌ {A = View} (record { shape = dimensions (Some y); entries = items l; room = length (places l) }) (grown (grow_outcome (view t)) (view t))
-        grow_view room there =
-            grown_view t.next x is (items t.entries) t.listed t.missing w found_w e made_so (items l) put y same (length (places t.entries)) (length (places l)) room
-            (ap length there ∙ length-set (places t.entries) (length (items t.entries)) e)
+    pub grow_next : IsNext t.next w
+    grow_next = subst (λ z. IsNext z w) (sym is) found_w
 
 -- what the promises of a grow follow from
-pub ruleset grows = (grow_complete, grow_full, grow_few, grow_first, grow_view, kept)
+pub ruleset grows = (grow_complete, grow_full, grow_few, grow_first, grow_view, grow_next, kept)
+
+-- ---- the next word is added
+
+holds_of : (s : Option Cursor) (es : List Entry) → es ≡ take (length es) (entries_in s) → drop (length es) (keys_in s) ≡ rest_in s → (w : CodedWord) → IsNext s w → (e : Entry) → e ≡ entry_for es w → (es' : List Entry) → es' ≡ es ++ e ∷ [] → (y : Cursor) → y.shape ≡ w.shape → y.length ≡ w.length → y.code ≡ w.code + 1 → Holds (Some y) es'
+holds_of None es listed missing w h e m es' put y same long behind = absurd h
+holds_of (Some x) es listed missing w h e m es' put y same long behind = grown_holds (Some x) x refl es listed missing w h e m es' put y same long behind
+
+module _ (t : Table) (w : CodedWord) (next : IsNext t.next w) (e : Entry) (m : e ≡ entry_for (items t.entries) w) (l : LentList Entry) (put : items l ≡ items t.entries ++ e ∷ []) (y : Cursor) (same : y.shape ≡ w.shape) (long : y.length ≡ w.length) (behind : y.code ≡ w.code + 1) where
+  holds : Holds (Some y) (items l)
+  holds = holds_of t.next (items t.entries) t.listed t.missing w next e m (items l) put y same long behind
+
+  pub added_listed : items l ≡ take (length (items l)) (entries_in (Some y))
+  added_listed = holds.0
+
+  pub added_missing : drop (length (items l)) (keys_in (Some y)) ≡ rest_in (Some y)
+  added_missing = holds.1.0
+
+same_of : (s : Option Cursor) (w : CodedWord) → IsNext s w → (y : Cursor) → y.shape ≡ w.shape → dimensions (Some y) ≡ dimensions s
+same_of None w h y same = absurd h
+same_of (Some x) w h y same = ap (λ z. Some (record { k = z.k; n = z.n })) (same ∙ h.0)
+
+pub same_dimensions : (t : Table) (w : CodedWord) → IsNext t.next w → (y : Cursor) → y.shape ≡ w.shape → dimensions (Some y) ≡ dimensions t.next
+same_dimensions t w next y same = same_of t.next w next y same

@@ -3,7 +3,9 @@ use Rattle.std.specs.Prelude.{ℕ, List, [], Some, None, Option}
 use Rattle.lyndon.specs.declared.entry.Entry.{Entry}
 use Rattle.lyndon.specs.Listing.{keys, rest}
 use Rattle.lyndon.specs.Entries.{listing}
+use Rattle.coded_word.specs.declared.coded.CodedWord.{CodedWord}
 use Rattle.coded_word.specs.declared.coded.Cursor.{Cursor}
+use Rattle.coded_word.specs.Scan.{FirstFrom}
 
 abbrev pub entries_in : Option Cursor → List Entry
 entries_in None = []
@@ -18,3 +20,8 @@ keys_in (Some c) = keys c.shape.k c.shape.n
 abbrev pub rest_in : Option Cursor → List (ℕ × ℕ)
 rest_in None = []
 rest_in (Some c) = rest c.shape.k c.shape.n c.length c.code
+
+-- w is the first of those
+abbrev pub IsNext : Option Cursor → CodedWord → Type 0
+IsNext None w = ⊥
+IsNext (Some c) w = FirstFrom c (Some w)

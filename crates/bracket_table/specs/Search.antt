@@ -2,6 +2,7 @@
 use Rattle.std.specs.Prelude.{ℕ, Bool, cond, ◌&&◌, List, length, take, drop, Option, ◌==◌, unwrap_or}
 use Rattle.std.specs.List.{position_from}
 use Rattle.lyndon.specs.declared.entry.Entry.{Entry}
+use Rattle.coded_word.specs.declared.coded.CodedWord.{CodedWord}
 use Rattle.lyndon.specs.Codes.{code, spelled}
 use Rattle.lyndon.specs.Entries.{cut}
 
@@ -26,3 +27,6 @@ made k es m c =
       left = cond (m == 1) 65535 (spotted k es (take (cut (spelled k m c)) (spelled k m c)));
       right = cond (m == 1) 65535 (spotted k es (drop (cut (spelled k m c)) (spelled k m c)));
     }
+
+abbrev pub entry_for : List Entry → CodedWord → Entry
+entry_for es w = made w.shape.k es w.length w.code

@@ -1,19 +1,21 @@
 //! The calls on a table.
-ghost use Rattle.std.specs.Prelude.{◌≡◌, ◌<◌, length, IfOk, OnErr, Some, None, MatchResult, slice_index_or, slice_set};
+ghost use Rattle.std.specs.Prelude.{◌≡◌, ◌<◌, length, IfOk, OnErr, Some, None, MatchResult, slice_index_or, slice_set, [], ◌∷◌, ◌++◌};
 ghost use Rattle.faults.specs.Outcome.{told};
-ghost use Rattle.lent_list.specs.Lent.{SameMemory};
+ghost use Rattle.lent_list.specs.Lent.{items, places, SameMemory};
 ghost use Rattle.lyndon.specs.Entries.{no_entry};
 ghost use Rattle.lyndon.specs.Theorems.{Listings};
 ghost use Rattle.bracket_table.specs.Calls.{opened, grow_outcome, grown, look_outcome, find_outcome};
 ghost use Rattle.bracket_table.specs.Faults.{table_fault};
-ghost use Rattle.bracket_table.specs.Seen.{view, memory, Sound, Adds};
+ghost use Rattle.bracket_table.specs.Held.{IsNext};
+ghost use Rattle.bracket_table.specs.Search.{entry_for};
+ghost use Rattle.bracket_table.specs.Seen.{dimensions, view, memory, Sound, Adds};
 ghost use Rattle.bracket_table.specs.Views.{fresh, shape_checked};
 
 use crate::Table;
 use crate::fault::TableFault;
 use crate::shape::check_shape;
 use coded_word::{CodedWord, Cursor, Shape};
-use lent_list::LentList;
+use lent_list::{Full, LentList};
 use lyndon::Entry;
 
 impl<'a> Table<'a> {
@@ -57,13 +59,8 @@ impl<'a> Table<'a> {
         ensures listings { Listings }
         ensures lender { SameMemory self.old.entries self.new.entries }
     {
-        let cursor = self.cursor()?;
-        let word = cursor.next().ok_or(TableFault::Complete)?;
-        let number = self.entries.count();
-        let entry = self.entry_of(word);
-        self.entries.push(entry)?;
-        self.next = Some(word.after());
-        Ok(number)
+        let word = self.cursor()?.next().ok_or(TableFault::Complete)?;
+        Ok(self.add(word)?)
     }
 
     /// The entry that has this number.
@@ -105,6 +102,27 @@ impl<'a> Table<'a> {
         ensures { result.now ≡ (view self.now).entries }
     {
         self.entries.items()
+    }
+
+    /// Adds the entry of the next word behind the others, and answers its number.
+    #[tactic(auto, using(crate::proofs::Growing::added_listed, crate::proofs::Growing::added_missing, crate::proofs::Growing::same_dimensions, crate::proofs::Same::same_table))]
+    fn add(&mut self, word: CodedWord) -> Result<usize, Full>
+        requires { IsNext self.old.next word }
+        ensures added { MatchResult result
+            (λ i. (i ≡ length (items self.old.entries))
+            × (length (items self.old.entries) < length (places self.old.entries))
+            × (items self.new.entries ≡ items self.old.entries ++ entry_for (items self.old.entries) word ∷ [])
+            × (places self.new.entries ≡ slice_set (places self.old.entries) i (entry_for (items self.old.entries) word))
+            × (dimensions self.new.next ≡ dimensions self.old.next))
+            (λ _. length (items self.old.entries) ≡ length (places self.old.entries)) }
+        ensures refused { OnErr result (self.new ≡ self.old) }
+        ensures lender { SameMemory self.old.entries self.new.entries }
+    {
+        let number = self.entries.count();
+        let entry = self.entry_of(word);
+        self.entries.push(entry)?;
+        self.next = Some(word.after());
+        Ok(number)
     }
 
     /// Where the scan goes on, where the table is open.

@@ -3,7 +3,7 @@ ghost use Rattle.std.specs.Prelude.{◌≡◌, ◌<◌, IfSome, unwrap_or};
 ghost use Rattle.lent_list.specs.Lent.{items};
 ghost use Rattle.lyndon.specs.Entries.{Earlier};
 ghost use Rattle.lyndon.specs.Listing.{Rising};
-ghost use Rattle.bracket_table.specs.Search.{spot, made};
+ghost use Rattle.bracket_table.specs.Search.{spot, entry_for};
 
 use crate::Table;
 use coded_word::CodedWord;
@@ -24,7 +24,7 @@ impl<'a> Table<'a> {
 
     /// The entry of a Lyndon word, the parts of which stand among the entries.
     pub(crate) fn entry_of(&self, word: CodedWord) -> Entry
-        ensures { result ≡ made word.shape.k (items self.now.entries) word.length word.code }
+        ensures { result ≡ entry_for (items self.now.entries) word }
     {
         let (left, right) = match word.parts() {
             Some(parts) => (self.part(parts.left), self.part(parts.right)),
