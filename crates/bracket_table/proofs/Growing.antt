@@ -205,23 +205,24 @@ pub ruleset grows = (grow_complete, grow_full, grow_few, grow_first, grow_view, 
 
 -- ---- the next word is added
 
-holds_of : (s : Option Cursor) (es : List Entry) → es ≡ take (length es) (entries_in s) → drop (length es) (keys_in s) ≡ rest_in s → (w : CodedWord) → IsNext s w → (e : Entry) → e ≡ entry_for es w → (es' : List Entry) → es' ≡ es ++ e ∷ [] → (y : Cursor) → y.shape ≡ w.shape → y.length ≡ w.length → y.code ≡ w.code + 1 → Holds (Some y) es'
-holds_of None es listed missing w h e m es' put y same long behind = absurd h
-holds_of (Some x) es listed missing w h e m es' put y same long behind = grown_holds (Some x) x refl es listed missing w h e m es' put y same long behind
+-- where the scan goes on, where a word is next
+next_of : (s : Option Cursor) (w : CodedWord) → IsNext s w → (x : Cursor) × (s ≡ Some x) × FirstFrom x (Some w)
+next_of None w next = absurd next
+next_of (Some x) w next = (x, refl, next)
 
-module _ (t : Table) (w : CodedWord) (next : IsNext t.next w) (e : Entry) (m : e ≡ entry_for (items t.entries) w) (l : LentList Entry) (put : items l ≡ items t.entries ++ e ∷ []) (y : Cursor) (same : y.shape ≡ w.shape) (long : y.length ≡ w.length) (behind : y.code ≡ w.code + 1) where
-  holds : Holds (Some y) (items l)
-  holds = holds_of t.next (items t.entries) t.listed t.missing w next e m (items l) put y same long behind
+module _ (t : Table) (w : CodedWord) (next : IsNext t.next w) (y : Cursor) (same : y.shape ≡ w.shape) where
+  from : (x : Cursor) × (t.next ≡ Some x) × FirstFrom x (Some w)
+  from = next_of t.next w next
 
-  pub added_listed : items l ≡ take (length (items l)) (entries_in (Some y))
-  added_listed = holds.0
+  pub same_dimensions : dimensions (Some y) ≡ dimensions t.next
+  same_dimensions = ap (λ z. Some (record { k = z.k; n = z.n })) (same ∙ from.2.0) ∙ sym (ap dimensions from.1)
 
-  pub added_missing : drop (length (items l)) (keys_in (Some y)) ≡ rest_in (Some y)
-  added_missing = holds.1.0
+  module _ (e : Entry) (made_so : e ≡ entry_for (items t.entries) w) (l : LentList Entry) (put : items l ≡ items t.entries ++ e ∷ []) (m : y.length ≡ w.length) (behind : y.code ≡ w.code + 1) where
+    holds : Holds (Some y) (items l)
+    holds = grown_holds t.next from.0 from.1 (items t.entries) t.listed t.missing w from.2 e made_so (items l) put y same m behind
 
-same_of : (s : Option Cursor) (w : CodedWord) → IsNext s w → (y : Cursor) → y.shape ≡ w.shape → dimensions (Some y) ≡ dimensions s
-same_of None w h y same = absurd h
-same_of (Some x) w h y same = ap (λ z. Some (record { k = z.k; n = z.n })) (same ∙ h.0)
+    pub added_listed : items l ≡ take (length (items l)) (entries_in (Some y))
+    added_listed = holds.0
 
-pub same_dimensions : (t : Table) (w : CodedWord) → IsNext t.next w → (y : Cursor) → y.shape ≡ w.shape → dimensions (Some y) ≡ dimensions t.next
-same_dimensions t w next y same = same_of t.next w next y same
+    pub added_missing : drop (length (items l)) (keys_in (Some y)) ≡ rest_in (Some y)
+    added_missing = holds.1.0
