@@ -72,6 +72,15 @@ impl CodedWord {
         Some(self.cut_at(self.cut()?))
     }
 
+    /// Its letters, which are written to the front of a buffer.
+    pub fn spell(self, buffer: &mut [u8; 12]) -> &[u8]
+        ensures { result.now ≡ word_of self }
+    {
+        let letters = &mut buffer[..usize::from(self.length)];
+        self.write_letters(letters);
+        letters
+    }
+
     /// The place behind it.
     #[tactic(auto, using(crate::proofs::Bounds::fewer))]
     pub fn after(self) -> Cursor
@@ -83,6 +92,22 @@ impl CodedWord {
             shape: self.shape,
             length: self.length,
             code: self.code + 1,
+        }
+    }
+
+    /// Writes its letters.
+    #[tactic(auto, using(crate::proofs::Spelling::weight_next, crate::proofs::Spelling::letter_small, crate::proofs::Spelling::small_next, crate::proofs::Spelling::all_spelled))]
+    fn write_letters(self, letters: &mut [u8])
+        requires { length letters.old ≡ self.length }
+        ensures { letters.new ≡ word_of self }
+    {
+        let k = u16::from(self.shape.k);
+        let mut weight = self.shape.count_words(self.length);
+        let mut rest = self.code;
+        for place in 0..letters.len() {
+            weight /= k;
+            letters[place] = (rest / weight) as u8;
+            rest %= weight;
         }
     }
 

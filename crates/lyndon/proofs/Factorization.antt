@@ -22,7 +22,7 @@ few_words ranks [] F = omega arith
 few_words ranks (f ∷ fs) F = omega (arith, F.0.some, few_words ranks fs F.1, length-append f (joined fs))
 
 module _ {A : Type 0} {ranks : A → A → Ordering} (o : TotalOrder ranks) where
-  falling_tail : (f : List A) (fs : List (List A)) → Falling ranks (f ∷ fs) → Falling ranks fs
+  pub falling_tail : (f : List A) (fs : List (List A)) → Falling ranks (f ∷ fs) → Falling ranks fs
   falling_tail f [] h = tt
   falling_tail f (g ∷ fs) h = h.1
 

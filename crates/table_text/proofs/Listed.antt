@@ -50,8 +50,14 @@ module _ (s : Listed) where
   pub size : length (word_at s) ≡ e.length
   size = length-spelled k e.length e.code
 
+  pub some_letters : 1 ≤ e.length
+  some_letters = omega (arith, of_shape.lyndon.some, size)
+
   pub few_letters : e.length ≤ s.shape.n
   few_letters = omega (arith, of_shape.short, size)
+
+  pub letter_small : (i : ℕ) → i < length (word_at s) → get_or (word_at s) i 0 < 16
+  letter_small i h = omega (arith, All-get_or (λ x. x < k) (word_at s) i 0 h of_shape.letters, s.shape.letters)
 
   -- four bytes for each letter, less three
   pub text_size : length (text_of (word_at s)) + 3 ≡ 4 * e.length
@@ -80,7 +86,7 @@ module _ (s : Listed) where
       where
         go : (1 < e.length) ⊎ (e.length ≤ 1) → 1 < e.length
         go (inl h) = h
-        go (inr h) = absurd (none (omega (arith, of_shape.lyndon.some, size)))
+        go (inr h) = absurd (none (omega (arith, some_letters)))
 
     cut_so : Split by_value (word_at s) (word k l) (word k r)
     cut_so = parted.split long

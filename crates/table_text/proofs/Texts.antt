@@ -1,17 +1,13 @@
 -- Texts of words.
-use Rattle.std.proofs.Common.{◌≡◌, ℕ, zero, suc, ◌+◌, ◌-◌, ◌*◌, ◌/◌, ◌%◌, ◌^◌, ◌<◌, ◌≤◌, ◌⊎◌, List, [], ◌∷◌, ◌++◌, map, length, take, drop, sym, refl, ap, ◌∙◌, inl, inr, mod-lt, div-lt_iff_lt-mul, pow-suc, mul-div_cancel, arith, length-append}
-use native.Mathlib.Nat.{pow-succ', one-le-pow}
+use Rattle.std.proofs.Common.{◌≡◌, ℕ, zero, suc, ◌+◌, ◌-◌, ◌*◌, ◌<◌, ◌≤◌, ◌⊎◌, List, [], ◌∷◌, ◌++◌, map, length, take, drop, sym, refl, ap, ◌∙◌, inl, inr, arith, length-append}
 use Rattle.std.proofs.lemmas.List.{length-drop, length-map, length-take-le}
 use Rattle.std.proofs.lemmas.Bool.{cases_lt, lt-ltb, le-ltb}
 use Rattle.letter_order.specs.Orders.{by_value}
 use Rattle.lyndon.specs.Words.{Split}
-use Rattle.lyndon.specs.Codes.{spelled}
 use Rattle.lyndon.specs.Entries.{cut}
-use Rattle.lyndon.proofs.Codes.{by_value_total, cut_splits, cut_within, length-spelled}
+use Rattle.lyndon.proofs.Codes.{by_value_total, cut_splits, cut_within}
 use Rattle.lyndon.proofs.Theorems.{split_once}
 use Rattle.table_text.specs.Lines.{symbol, pair, text, text_of, Texts}
-
--- ---- the text of a word
 
 single : (m : ℕ) (w : List ℕ) → length w < 2 → text (suc m) w ≡ map symbol w
 unfolding text
@@ -76,35 +72,3 @@ texts = record {
   bracket = text_split;
   size = λ w some. text_size (length w) w some (omega arith);
 }
-
--- ---- the letters of a word, one after the other
-
--- behind i of m letters, `rest` spells the others
-module _ (k m i rest : ℕ) (here : i < m) where
-  left : m - i ≡ suc (m - 1 - i)
-  left = omega arith
-
-  next : m - (i + 1) ≡ m - 1 - i
-  next = omega arith
-
-  pub spelled_more : spelled k (m - i) rest ≡ rest / k ^ (m - 1 - i) ∷ spelled k (m - (i + 1)) (rest % k ^ (m - 1 - i))
-  spelled_more = rw next (ap (λ j. spelled k j rest) left)
-
-  pub weight_next : 1 ≤ k → k ^ (m - i) / k ≡ k ^ (m - 1 - i)
-  weight_next some = ap (λ j. k ^ j / k) left ∙ ap (λ w. w / k) (pow-suc k (m - 1 - i)) ∙ mul-div_cancel (k ^ (m - 1 - i)) some
-
-  pub letter_small : 1 ≤ k → rest < k ^ (m - i) → rest / k ^ (m - 1 - i) < k
-  letter_small some small =
-      let p : 0 < k ^ (m - 1 - i) = one-le-pow (m - 1 - i) k some in
-      let h : rest < k * k ^ (m - 1 - i) = rw (left, pow-succ') at small in
-      (div-lt_iff_lt-mul p).1 h
-
-  pub small_next : 1 ≤ k → rest % k ^ (m - 1 - i) < k ^ (m - (i + 1))
-  small_next some = rw next (mod-lt rest (one-le-pow (m - 1 - i) k some))
-
-  -- where a letter finds no room, all of them do not
-  pub no_room : (w start : List ℕ) (c was old : ℕ) → w ++ map symbol (spelled k (m - i) rest) ≡ start ++ map symbol (spelled k m c) → was ≡ old → length w ≡ was → old < length start + m
-  no_room w start c was old so_far same full =
-      let n = length-spelled k (m - i) rest in
-      let all = simp (length-append, length-map, length-spelled) at (ap length so_far) in
-      omega arith

@@ -8,7 +8,7 @@ ghost use Rattle.text.specs.Lines.{written, left as left_over};
 ghost use Rattle.text.specs.Pieces.{bytes_of};
 ghost use Rattle.table_text.specs.Lines.{symbol, pair, text_of, part, fields, line_of_entry};
 
-use coded_word::Shape;
+use coded_word::{CodedWord, Shape};
 use lent_list::{Full, LentList};
 use lyndon::Entry;
 use text::{Piece, TextFault, write_pieces};
@@ -119,7 +119,7 @@ impl<'a> Listed<'a> {
     }
 
     /// Puts the symbols of its word behind a line.
-    #[tactic(auto, using(crate::proofs::Listed::few_letters, crate::proofs::Listed::coded, crate::proofs::Texts::weight_next, crate::proofs::Texts::letter_small, coded_word::proofs::Bounds::fits, coded_word::proofs::Bounds::some))]
+    #[tactic(auto, using(crate::proofs::Listed::some_letters, crate::proofs::Listed::few_letters, crate::proofs::Listed::coded, crate::proofs::Listed::size, crate::proofs::Listed::letter_small))]
     fn put_word(self, line: &mut LentList<u8>) -> Result<(), Full>
         ensures done { MatchResult result
             (λ _. items line.new ≡ items line.old ++ map symbol (word_at self.entry))
@@ -127,13 +127,13 @@ impl<'a> Listed<'a> {
         ensures lender { SameMemory line.old line.new }
     {
         let entry = self.entry();
-        let k = u16::from(self.shape.k);
-        let mut weight = k.pow(u32::from(entry.length));
-        let mut rest = entry.code;
-        for _i in 0..entry.length {
-            weight /= k;
-            line.push(symbol_of((rest / weight) as u8))?;
-            rest %= weight;
+        let word = CodedWord {
+            shape: self.shape,
+            length: entry.length,
+            code: entry.code,
+        };
+        for letter in word.spell(&mut [0; LETTERS]) {
+            line.push(symbol_of(*letter))?;
         }
         Ok(())
     }
