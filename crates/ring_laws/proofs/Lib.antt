@@ -1,0 +1,5 @@
+pub mod Basics
+pub mod Solve
+pub mod Images
+pub mod Residues
+pub mod Bits

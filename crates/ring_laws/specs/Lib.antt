@@ -1,0 +1,4 @@
+pub mod Rings
+pub mod Whole
+pub mod Residues
+pub mod Bits
