@@ -1,0 +1,6 @@
+pub mod Products
+pub mod Steps
+pub mod Rules
+pub mod Leading
+pub mod Parts
+pub mod Theorems

@@ -1,0 +1,2 @@
+pub mod Polynomials
+pub mod Theorems
