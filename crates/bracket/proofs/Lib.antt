@@ -1,0 +1,2 @@
+pub mod Cutting
+pub mod Values
