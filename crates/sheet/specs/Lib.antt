@@ -1,0 +1,5 @@
+pub mod Sheets
+pub mod Products
+pub mod WordSheets
+pub mod Calls
+pub mod Faults
