@@ -21,9 +21,11 @@ pub enum Case {
     Entry(u8, u8, usize, &'static [u8], u16, u16),
     /// A word has this text.
     Text(&'static [u8], &'static [u8]),
+    /// Over so many letters, P of a word has these coefficients, each at the code of its word.
+    Polynomial(u8, &'static [u8], &'static [i16]),
 }
 
-const CASES: [Case; 9] = [
+const CASES: [Case; 10] = [
     Case::Factors(&[0, 0, 1, 0, 0, 1], &[&[0, 0, 1], &[0, 0, 1]]),
     Case::Factors(&[1, 0], &[&[1], &[0]]),
     Case::Factors(&[0, 1, 0, 1], &[&[0, 1], &[0, 1]]),
@@ -37,11 +39,12 @@ const CASES: [Case; 9] = [
     Case::Entry(2, 5, 10, &[0, 0, 1, 0, 1], 3, 2),
     Case::Entry(2, 5, 12, &[0, 1, 0, 1, 1], 2, 4),
     Case::Text(&[0, 0, 1, 1, 0, 1], b"[[0,[[0,1],1]],[0,1]]"),
+    Case::Polynomial(2, &[0, 0, 1], &[0, 1, -2, 0, 1, 0, 0, 0]),
 ];
 
 /// All of them.
-#[tactic(auto, unfolding(lyndon::specs::Listing::lyndon, lyndon::specs::Listing::codes, lyndon::specs::Listing::lengths, lyndon::specs::Listing::keys, lyndon::specs::Entries::listing, table_text::specs::Lines::text))]
-pub fn cases() -> [Case; 9]
+#[tactic(auto, unfolding(lyndon::specs::Listing::lyndon, lyndon::specs::Listing::codes, lyndon::specs::Listing::lengths, lyndon::specs::Listing::keys, lyndon::specs::Entries::listing, table_text::specs::Lines::text, polynomial::specs::Polynomials::poly))]
+pub fn cases() -> [Case; 10]
     ensures { AllHold result }
 {
     CASES
