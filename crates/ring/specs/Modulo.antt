@@ -1,7 +1,5 @@
 -- The rings of whole numbers modulo 2^64 and modulo 2^16.
-use Rattle.std.specs.Prelude.{◌<◌, ◌^◌, refl}
-use mathlib.Core.HLevel.{is_prop→PathP}
-use native.Mathlib.Bridge.{le_prop}
+use Rattle.std.specs.Prelude.{◌^◌, refl}
 use lib.Dec.{lit<}
 use Rattle.ring_laws.specs.Rings.{Operations}
 use Rattle.ring_laws.specs.Residues.{Below, residues}
@@ -16,7 +14,7 @@ below_64 =
       make = λ n h. record { value = n; fits = h };
       below = λ x. x.fits;
       made = λ n h. refl;
-      same = λ x y e. λ i. record { value = e i; fits = is_prop→PathP (λ j. e j < 2 ^ 64) (λ j. le_prop) x.fits y.fits i };
+      own = λ x. refl;
     }
 
 abbrev pub ring_64 : Operations Mod64
@@ -30,7 +28,7 @@ below_16 =
       make = λ n h. record { value = n; fits = h };
       below = λ x. x.fits;
       made = λ n h. refl;
-      same = λ x y e. λ i. record { value = e i; fits = is_prop→PathP (λ j. e j < 2 ^ 16) (λ j. le_prop) x.fits y.fits i };
+      own = λ x. refl;
     }
 
 abbrev pub ring_16 : Operations Mod16

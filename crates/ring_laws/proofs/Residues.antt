@@ -1,9 +1,11 @@
 -- The laws of whole numbers modulo m.
-use Rattle.std.proofs.Common.{◌≡◌, ℕ, zero, suc, ◌+◌, ◌-◌, ◌*◌, ◌%◌, ℤ, pos, refl, sym, ap, ◌∙◌, arith}
+use Rattle.std.proofs.Common.{◌≡◌, ℕ, zero, suc, ◌+◌, ◌-◌, ◌*◌, ◌%◌, ◌<◌, ℤ, pos, refl, sym, ap, ◌∙◌, arith}
 use Rattle.std.proofs.Common.{add-zero, add-one, add_assoc, add_comm, mul_assoc, mul_comm, mul-one, mul-add, mod-lt, mod-eq_of_lt}
 use Rattle.std.proofs.lemmas.Nat.{mul-mod_first, mul-mod_second}
 use native.Mathlib.Nat.{zero-mod, mod_self, mod-add-mod, add-mod-mod}
 use lib.IntN.{negsuc}
+use mathlib.Core.HLevel.{is_prop→PathP}
+use native.Mathlib.Bridge.{le_prop}
 use Rattle.ring_laws.specs.Rings.{Laws, CommutativeRing}
 use Rattle.ring_laws.specs.Whole.{ones, whole}
 use Rattle.ring_laws.specs.Residues.{Below, residue, residue_image, residues}
@@ -16,15 +18,19 @@ module _ {m : ℕ} {A : Type 0} (b : Below m A) where
   abbrev val : A → ℕ
   val = b.value
 
+  -- two values are the same where their numbers are
+  same : (x y : A) → val x ≡ val y → x ≡ y
+  same x y e = sym (b.own x) ∙ (λ i. b.make (e i) (is_prop→PathP (λ j. e j < m) (λ j. le_prop) (b.below x) (b.below y) i)) ∙ b.own y
+
   value_residue : (n : ℕ) → val (res n) ≡ n % m
   value_residue n = b.made (n % m) (mod-lt n (omega arith))
 
   -- numbers that are the same modulo m have one residue
   equal : (x y : ℕ) → x % m ≡ y % m → res x ≡ res y
-  equal x y e = b.same (res x) (res y) (value_residue x ∙ e ∙ sym (value_residue y))
+  equal x y e = same (res x) (res y) (value_residue x ∙ e ∙ sym (value_residue y))
 
   at_value : (x : A) → res (val x) ≡ x
-  at_value x = b.same (res (val x)) x (value_residue (val x) ∙ mod-eq_of_lt (b.below x))
+  at_value x = same (res (val x)) x (value_residue (val x) ∙ mod-eq_of_lt (b.below x))
 
   plus_left : (x y : ℕ) → res (val (res x) + y) ≡ res (x + y)
   plus_left x y = equal _ _ (ap (λ p. (p + y) % m) (value_residue x) ∙ mod-add-mod x m y)

@@ -12,7 +12,7 @@ pub record Below (m : ℕ) (A : Type 0) : Type 0 where
   pub make : (n : ℕ) → n < m → A
   pub below : (x : A) → value x < m
   pub made : (n : ℕ) (h : n < m) → value (make n h) ≡ n
-  pub same : (x y : A) → value x ≡ value y → x ≡ y
+  pub own : (x : A) → make (value x) (below x) ≡ x
 
 module _ {m : ℕ} {A : Type 0} (b : Below m A) where
   -- the value of n modulo m
