@@ -4,3 +4,4 @@ pub mod Growing
 mod Finding
 mod Same
 mod Shapes
+pub mod Named

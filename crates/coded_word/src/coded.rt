@@ -20,6 +20,14 @@ pub struct CodedWord {
     ghost coded: { code < shape.k ^ length },
 }
 
+/// The letters of a word of a shape, which has at most 12.
+#[derive(Clone, Copy)]
+pub struct Letters {
+    places: [u8; 12],
+    count: u8,
+    ghost few: { count ≤ 12 },
+}
+
 /// The two parts of a word.
 #[derive(Clone, Copy, PartialEq, Eq, Debug)]
 pub struct Parts {
@@ -40,7 +48,7 @@ pub struct Cursor {
 }
 
 impl CodedWord {
-    ghost use Rattle.coded_word.specs.Words.{word_of, left_of, right_of, IsWord};
+    ghost use Rattle.coded_word.specs.Words.{word_of, letters_in, left_of, right_of, IsWord};
 
     /// The word with these letters.
     #[tactic(auto, using(crate::proofs::Passed::letters_below))]
@@ -72,13 +80,16 @@ impl CodedWord {
         Some(self.cut_at(self.cut()?))
     }
 
-    /// Its letters, which are written to the front of a buffer.
-    pub fn spell(self, buffer: &mut [u8; 12]) -> &[u8]
-        ensures { result.now ≡ word_of self }
+    /// Its letters.
+    pub fn letters(self) -> Letters
+        ensures { letters_in result ≡ word_of self }
     {
-        let letters = &mut buffer[..usize::from(self.length)];
-        self.write_letters(letters);
-        letters
+        let mut places = [0; 12];
+        self.write_letters(&mut places[..usize::from(self.length)]);
+        Letters {
+            places,
+            count: self.length,
+        }
     }
 
     /// The place behind it.
@@ -144,6 +155,17 @@ impl CodedWord {
             code: self.code % weight,
         };
         Parts { left, right }
+    }
+}
+
+impl Letters {
+    ghost use Rattle.coded_word.specs.Words.{letters_in};
+
+    /// Them, one after the other.
+    pub fn as_slice(&self) -> &[u8]
+        ensures { result.now ≡ letters_in self.now }
+    {
+        &self.places[..usize::from(self.count)]
     }
 }
 

@@ -5,5 +5,5 @@
 mod coded;
 mod shape;
 
-pub use coded::{CodedWord, Cursor, Parts};
+pub use coded::{CodedWord, Cursor, Letters, Parts};
 pub use shape::Shape;

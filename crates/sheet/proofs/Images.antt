@@ -1,5 +1,5 @@
 -- The images of the coefficients of P of a word of a shape.
-use Rattle.std.proofs.Common.{◌≡◌, ℕ, zero, suc, ◌-◌, ◌%◌, ◌^◌, ◌<◌, ◌≤◌, List, [], ◌∷◌, map, length, refl, ap₂, None, Option, unwrap_or, ℤ, pos, negsuc, unsigned_abs, Some, sym, ap, ◌∙◌, subst, arith}
+use Rattle.std.proofs.Common.{◌≡◌, ℕ, suc, ◌-◌, ◌%◌, ◌^◌, ◌<◌, ◌≤◌, List, map, length, take, get_or, refl, None, Option, ℤ, pos, negsuc, unsigned_abs, Some, sym, ap, ◌∙◌, subst, arith}
 use Rattle.std.specs.Int.{w16, cast_signed}
 use Rattle.std.proofs.lemmas.Int.{ints, to_z-of_z, fits_signed_from_abs}
 use Rattle.ring_laws.specs.Residues.{residue_image}
@@ -10,6 +10,9 @@ use Rattle.ring.specs.Modulo.{below_16, ring_16}
 use Rattle.ring.specs.declared.modulo.Mod16.{Mod16}
 use Rattle.faults.specs.Outcome.{Outcome}
 use Rattle.faults.specs.Outcome.Outcome.{answered, refused}
+use Rattle.bracket_table.proofs.Named as table
+use Rattle.std.proofs.lemmas.Simd.{map-map}
+use Rattle.std.proofs.lemmas.Option.{slice_get_within, get_or_from_slice_get}
 use Rattle.bracket_table.specs.Calls.{when_open, with_entry, look_outcome}
 use Rattle.bracket_table.specs.Seen.{Sound}
 use Rattle.bracket_table.specs.Views.{View}
@@ -21,13 +24,10 @@ use Rattle.coded_word.specs.Words.{word_of}
 use Rattle.coded_word.proofs.Bounds.{fewer}
 use Rattle.lyndon.specs.Codes.{Over}
 use Rattle.lyndon.proofs.Codes.{length-spelled, spelled-over}
-use Rattle.lyndon.proofs.Entries.{listing_coded}
 use Rattle.lyndon.specs.Codes.{spelled}
-use Rattle.lyndon.specs.Entries.{word, words}
-use Rattle.lyndon.specs.Listing.{OfShape}
-use Rattle.lyndon.specs.Theorems.{FirstEntries}
+use Rattle.lyndon.specs.Entries.{listing, no_entry}
 use Rattle.bracket.proofs.Values.{bound}
-use Rattle.std.specs.List.{range_with_len, slice_get, AllByRecursion}
+use Rattle.std.specs.List.{range_with_len, slice_get}
 use Rattle.sheet.specs.WordSheets.{room_for, sheet_in}
 
 module _ (w : CodedWord) where
@@ -69,24 +69,13 @@ images image w row xs e r =
     let P_at : ℕ → ℤ = λ c. P (word_of w) (spelled k w.length c) in
     let all : (c : ℕ) → image (cast_signed w16 (whole ring_16 (P_at c)).value) ≡ image (P_at c) = λ c. ap image (signed_whole (P_at c) (small (word_of w) (spelled k w.length c) (omega (arith, length-spelled k w.length w.code, w.short, w.shape.depth)))) in
     e ∙ ap (map (λ x. image (cast_signed w16 x.value))) (r ∙ ap (λ m. sheet_of k m (λ u. whole ring_16 (P (word_of w) u))) (length-spelled k w.length w.code))
-    ∙ mapped (λ c. whole ring_16 (P_at c)) (λ x. image (cast_signed w16 x.value)) (λ c. image (P_at c)) all (range_with_len 0 (k ^ w.length))
+    ∙ map-map (λ x. image (cast_signed w16 x.value)) (λ c. whole ring_16 (P_at c)) (range_with_len 0 (k ^ w.length))
+    ∙ ap (λ h. map h (range_with_len 0 (k ^ w.length))) (λ j. λ c. all c j)
   where
-    mapped : {X Y Z : Type 0} (f : X → Y) (g : Y → Z) (h : X → Z) → ((x : X) → g (f x) ≡ h x) → (l : List X) → map g (map f l) ≡ map h l
-    mapped f g h same [] = refl
-    mapped f g h same (x ∷ l) = ap₂ ◌∷◌ (same x) (mapped f g h same l)
-
     small : (v u : List ℕ) → length v ≤ 12 → unsigned_abs (P v u) ≤ 2048
     small v u h = bound v u (P v u) refl h
 
 -- ---- an entry is a word of the shape
-
-at_place : {X : Type 0} (C : X → Type 0) (xs : List X) (i : ℕ) (x : X) → AllByRecursion C xs → slice_get xs i ≡ Some x → C x
-at_place C [] i x a e = absurd (no_place e)
-  where
-    no_place : {Y : Type 0} {y : Y} → None ≡ Some y → ⊥
-    no_place h = let z : ◌≡◌ {A = ℕ} 0 1 = cc in omega arith
-at_place C (y ∷ xs) zero x a e = subst C (ap (λ o. unwrap_or o y) e) a.0
-at_place C (y ∷ xs) (suc i) x a e = at_place C xs i x a.1 e
 
 module _ (v : View) (i k n : ℕ) (e : Entry) (shape : v.shape ≡ Some (record { k = k; n = n })) (some : 1 ≤ k) (sound : Sound v) (answer : answered e ≡ look_outcome v i) where
   here : slice_get v.entries i ≡ Some e
@@ -100,21 +89,20 @@ module _ (v : View) (i k n : ℕ) (e : Entry) (shape : v.shape ≡ Some (record 
       go None h = sym (ap seen h)
       go (Some d) h = sym (ap seen h)
 
-  first : FirstEntries k n v.entries
-  first = sound (record { k = k; n = n }) shape
+  listed : v.entries ≡ take (length v.entries) (listing k n)
+  listed = (sound (record { k = k; n = n }) shape).listed
 
-  of_shape : OfShape k n (word k e)
-  of_shape = at_place (λ d. OfShape k n (word k d)) v.entries i e (unmapped v.entries first.first.lyndon) here
-    where
-      unmapped : (ds : List Entry) → AllByRecursion (OfShape k n) (words k ds) → AllByRecursion (λ d. OfShape k n (word k d)) ds
-      unmapped [] a = tt
-      unmapped (d ∷ ds) a = (a.0, unmapped ds a.1)
+  within : i < length v.entries
+  within = slice_get_within v.entries i e here
+
+  named : get_or v.entries i no_entry ≡ e
+  named = get_or_from_slice_get v.entries i e no_entry here
 
   pub entry_some : 1 ≤ e.length
-  entry_some = omega (arith, of_shape.lyndon.some, length-spelled k e.length e.code)
+  entry_some = rw named at (table.entry_some k n some v.entries listed i within)
 
   pub entry_short : e.length ≤ n
-  entry_short = omega (arith, of_shape.short, length-spelled k e.length e.code)
+  entry_short = rw named at (table.entry_short k n some v.entries listed i within)
 
   pub entry_coded : e.code < k ^ e.length
-  entry_coded = at_place (λ d. d.code < k ^ d.length) v.entries i e (subst (AllByRecursion (λ d. d.code < k ^ d.length)) (sym first.listed) (listing_coded k n some (length v.entries))) here
+  entry_coded = rw named at (table.entry_coded k n some v.entries listed i within)

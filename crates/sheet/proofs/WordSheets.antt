@@ -1,5 +1,5 @@
 -- P of a word as a sheet, from P of its parts.
-use Rattle.std.proofs.Common.{◌≡◌, ℕ, ◌+◌, ◌*◌, ◌^◌, ◌<◌, ◌≤◌, cond, List, [], ◌∷◌, ◌++◌, length, get_or, take, drop, ℤ, neg_ℤ, ◌*ℤ◌, sym, refl, ap, ap₂, ◌∙◌, subst, inl, inr, arith, length-append, pow-add, eq-eqb, ne_eqb}
+use Rattle.std.proofs.Common.{◌≡◌, ℕ, ◌+◌, ◌*◌, ◌^◌, ◌<◌, ◌≤◌, cond, List, ◌++◌, length, get_or, take, drop, ℤ, neg_ℤ, ◌*ℤ◌, sym, refl, ap, ap₂, ◌∙◌, subst, inl, inr, arith, length-append, pow-add, eq-eqb, ne_eqb}
 use Rattle.std.proofs.lemmas.Bool.{cases_eq}
 use Rattle.std.proofs.lemmas.List.FromFn.{length-map-range_with_len, get_or-map-range_with_len, fill_by_all}
 use Rattle.std.specs.Prelude.{◌==◌}
@@ -8,7 +8,8 @@ use Rattle.ring_laws.specs.Whole.{whole}
 use Rattle.ring_laws.proofs.Images.{whole_zero, whole_one, whole_plus, whole_negative, whole_times}
 use Rattle.coded_word.specs.declared.shape.Shape.{Shape}
 use Rattle.lyndon.specs.Codes.{Over, code, spelled}
-use Rattle.lyndon.proofs.Codes.{length-spelled, code-spelled, spelled-code}
+use Rattle.lyndon.proofs.Codes.{length-spelled, code-spelled, spelled-code, over-take, over-drop}
+use lib.Seq.{take-append_seam, drop-append_seam}
 use Rattle.polynomial.proofs.Parts.{P_short}
 use Rattle.polynomial.proofs.Leading.{only_itself, only_other}
 use Rattle.bracket.proofs.Values.{split_value, first_value}
@@ -78,23 +79,15 @@ parts_size ring k n w l r x y e size hx hy =
 
 -- ---- the parts are words of the shape
 
-over_front : (k : ℕ) (u v : List ℕ) → Over k (u ++ v) → Over k u
-over_front k [] v h = tt
-over_front k (x ∷ u) v h = (h.0, over_front k u v h.1)
-
-over_back : (k : ℕ) (u v : List ℕ) → Over k (u ++ v) → Over k v
-over_back k [] v h = h
-over_back k (x ∷ u) v h = over_back k u v h.1
-
 module _ (s : Shape) (w l r : List ℕ) (e : w ≡ l ++ r) (h : InShape s w) where
   sizes : length l + length r ≡ length w
   sizes = sym (ap length e ∙ length-append l r)
 
   front_in : InShape s l
-  front_in = (over_front s.k l r (subst (Over s.k) e h.0), omega (arith, sizes, h.1))
+  front_in = (subst (Over s.k) (ap (take (length l)) e ∙ take-append_seam l r) (over-take s.k (length l) w h.0), omega (arith, sizes, h.1))
 
   back_in : InShape s r
-  back_in = (over_back s.k l r (subst (Over s.k) e h.0), omega (arith, sizes, h.1))
+  back_in = (subst (Over s.k) (ap (drop (length l)) e ∙ drop-append_seam l r) (over-drop s.k (length l) w h.0), omega (arith, sizes, h.1))
 
 pub left_in : (s : Shape) (w l r : List ℕ) → SplitCut w l r → InShape s w → InShape s l
 left_in s w l r C h = front_in s w l r C.1.whole h

@@ -85,9 +85,9 @@ fn write_row(word: CodedWord, row: &mut [Mod16])
     requires { length row.old ≡ word.shape.k ^ word.length }
     ensures { row.new ≡ sheet_in ring_16 word.shape.k (word_of word) }
 {
-    let mut letters = [0; LETTERS];
+    let letters = word.letters();
     let mut spare = [Mod16::zero(); WORDS + 2 * LETTERS];
-    if let Some(short) = ShortWord::new(word.spell(&mut letters)) {
+    if let Some(short) = ShortWord::new(letters.as_slice()) {
         write_polynomial(word.shape, short, row, &mut spare);
     }
 }

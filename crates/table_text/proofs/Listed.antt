@@ -1,17 +1,17 @@
 -- An entry of a table, by its number.
 use Rattle.std.proofs.Common.{◌≡◌, ℕ, ◌+◌, ◌*◌, ◌/◌, ◌^◌, ◌<◌, ◌≤◌, ◌⊎◌, List, [], ◌∷◌, map, length, get_or, sym, ap, ◌∙◌, subst, inl, inr, one-mul, pow-suc, div-one, arith, length-append}
 use native.Mathlib.Nat.{pow-zero}
-use Rattle.std.specs.List.{AllByRecursion}
 use Rattle.std.proofs.ByRecursion.{All-get_or}
 use Rattle.std.proofs.lemmas.Bool.{cases_lt}
 use Rattle.letter_order.specs.Orders.{by_value}
 use Rattle.lyndon.specs.declared.entry.Entry.{Entry}
 use Rattle.lyndon.specs.Words.{Split}
 use Rattle.lyndon.specs.Codes.{spelled}
-use Rattle.lyndon.specs.Entries.{word, words, no_entry, Parted}
+use Rattle.lyndon.specs.Entries.{word, no_entry, Parted}
 use Rattle.lyndon.specs.Listing.{OfShape}
 use Rattle.lyndon.proofs.Codes.{length-spelled}
-use Rattle.lyndon.proofs.Entries.{listing_coded, listing_first, listing_parts}
+use Rattle.lyndon.proofs.Entries.{listing_parts}
+use Rattle.bracket_table.proofs.Named.{entry_coded, entry_of_shape, entry_some, entry_short}
 use Rattle.table_text.specs.Lines.{symbol, pair, text_of}
 use Rattle.table_text.specs.Listed.{entry_at, word_at}
 use Rattle.table_text.specs.declared.entry_line.Listed.{Listed}
@@ -34,27 +34,19 @@ module _ (s : Listed) where
   r = get_or es e.right no_entry
 
   pub coded : e.code < k ^ e.length
-  coded =
-      All-get_or (λ d. d.code < k ^ d.length) es s.number no_entry s.named
-      (subst (AllByRecursion (λ d. d.code < k ^ d.length)) (sym s.listed) (listing_coded k s.shape.n s.shape.some (length es)))
+  coded = entry_coded k s.shape.n s.shape.some es s.listed s.number s.named
 
   of_shape : OfShape k s.shape.n (word_at s)
-  of_shape =
-      let a : AllByRecursion (OfShape k s.shape.n) (words k es) = subst (λ z. AllByRecursion (OfShape k s.shape.n) (words k z)) (sym s.listed) (listing_first k s.shape.n s.shape.some (length es)).lyndon in
-      All-get_or (λ d. OfShape k s.shape.n (word k d)) es s.number no_entry s.named (unmapped es a)
-    where
-      unmapped : (ds : List Entry) → AllByRecursion (OfShape k s.shape.n) (words k ds) → AllByRecursion (λ d. OfShape k s.shape.n (word k d)) ds
-      unmapped [] a = tt
-      unmapped (d ∷ ds) a = (a.0, unmapped ds a.1)
+  of_shape = entry_of_shape k s.shape.n s.shape.some es s.listed s.number s.named
 
   pub size : length (word_at s) ≡ e.length
   size = length-spelled k e.length e.code
 
   pub some_letters : 1 ≤ e.length
-  some_letters = omega (arith, of_shape.lyndon.some, size)
+  some_letters = entry_some k s.shape.n s.shape.some es s.listed s.number s.named
 
   pub few_letters : e.length ≤ s.shape.n
-  few_letters = omega (arith, of_shape.short, size)
+  few_letters = entry_short k s.shape.n s.shape.some es s.listed s.number s.named
 
   pub letter_small : (i : ℕ) → i < length (word_at s) → get_or (word_at s) i 0 < 16
   letter_small i h = omega (arith, All-get_or (λ x. x < k) (word_at s) i 0 h of_shape.letters, s.shape.letters)

@@ -132,7 +132,8 @@ impl<'a> Listed<'a> {
             length: entry.length,
             code: entry.code,
         };
-        for letter in word.spell(&mut [0; LETTERS]) {
+        let letters = word.letters();
+        for letter in letters.as_slice() {
             line.push(symbol_of(*letter))?;
         }
         Ok(())
