@@ -1,6 +1,8 @@
 -- What the first factor and the split of a word of at most 12 letters say of its polynomial.
-use Rattle.std.proofs.Common.{◌≡◌, ℕ, ◌+◌, ◌<◌, ◌≤◌, true, List, [], ◌∷◌, ◌++◌, length, take, drop, Some, None, Option, unwrap_or, sym, refl, ap, ◌∙◌, subst, inl, inr, arith, length-append, length-take, length-drop, append-nil}
+use Rattle.std.proofs.Common.{◌≡◌, ℕ, ◌+◌, ◌<◌, ◌≤◌, true, List, [], ◌∷◌, ◌++◌, length, take, drop, Some, None, Option, unwrap_or, sym, ap, ◌∙◌, subst, inl, inr, arith, length-append, length-take, length-drop, append-nil}
 use Rattle.std.proofs.lemmas.Bool.Decides.{nat_tests}
+use Rattle.std.proofs.lemmas.List.{nil_from_length}
+use Rattle.std.proofs.lemmas.Option.{none-some}
 use lib.Seq.{take-append_seam, drop-append_seam}
 use Rattle.faults.specs.declared.Fault.{Fault}
 use Rattle.faults.specs.Outcome.Outcome.{answered, refused}
@@ -14,13 +16,6 @@ use Rattle.lyndon.proofs.Factorization.{factored}
 use Rattle.word.specs.Calls.{cut_behind, first_outcome, split_outcome}
 use Rattle.bracket.specs.Cuts.{SplitCut, FirstCut, Whole, Unsplit}
 
-some_none : {A : Type 0} {x : A} → Some x ≡ None → ⊥
-some_none h = let z : ◌≡◌ {A = ℕ} 0 1 = cc in omega arith
-
-no_letters : (r : List ℕ) → length r ≡ 0 → r ≡ []
-no_letters [] h = refl
-no_letters (x ∷ r) h = absurd (omega arith)
-
 -- ---- the first factor
 
 -- the answer, where the word is not too long
@@ -32,7 +27,7 @@ first_parts : (w f r : List ℕ) → answered (Some (f, r)) ≡ first_outcome by
 first_parts w f r e h = go (factors by_value w) (factored by_value_total w) (first_answer w (Some (f, r)) e h)
   where
     go : (gs : List (List ℕ)) → Factors by_value w gs → Some (f, r) ≡ cut_behind w gs → (fs : List (List ℕ)) × Factors by_value w (f ∷ fs) × (r ≡ joined fs)
-    go [] F k = absurd (some_none k)
+    go [] F k = absurd (none-some (f, r) (sym k))
     go (g ∷ gs) F k =
         let parts : (f, r) ≡ (take (length g) w, drop (length g) w) = ap (λ o. unwrap_or o ([], [])) k in
         let same : f ≡ g = ap (λ x. x.0) parts ∙ ap (take (length g)) (sym F.whole) ∙ take-append_seam g (joined gs) in
@@ -56,7 +51,7 @@ first_right w f r e h = omega (arith, first_sizes w f r e h)
 pub first_whole : (w f r : List ℕ) → answered (Some (f, r)) ≡ first_outcome by_value w → length w ≤ 12 → length r ≡ 0 → Whole w
 first_whole w f r e h k =
     let p = first_parts w f r e h in
-    let none : joined p.0 ≡ [] = sym p.2 ∙ no_letters r k in
+    let none : joined p.0 ≡ [] = sym p.2 ∙ nil_from_length r k in
     inr (says_lyndon w (subst (Lyndon by_value) (sym (append-nil f) ∙ ap (λ v. f ++ v) (sym none) ∙ p.1.whole) p.1.lyndon.0))
 
 pub first_none : (w : List ℕ) → answered None ≡ first_outcome by_value w → length w ≤ 12 → Whole w
@@ -64,7 +59,7 @@ first_none w e h = go (factors by_value w) (factored by_value_total w) (first_an
   where
     go : (gs : List (List ℕ)) → Factors by_value w gs → None ≡ cut_behind w gs → Whole w
     go [] F k = inl (ap length (sym F.whole))
-    go (g ∷ gs) F k = absurd (some_none (sym k))
+    go (g ∷ gs) F k = absurd (none-some (take (length g) w, drop (length g) w) k)
 
 split_answer : (w l r : List ℕ) → answered (Some (l, r)) ≡ split_outcome by_value w → (lyndon w ≡ true) × (2 ≤ length w) × (l ≡ take (cut w) w) × (r ≡ drop (cut w) w)
 unfolding lyndon

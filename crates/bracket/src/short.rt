@@ -12,7 +12,7 @@ const LONGEST: usize = 12;
 /// A word of at most 12 letters: the coefficients of its polynomial fit an `i16`.
 #[derive(Clone, Copy)]
 pub struct ShortWord<'w> {
-    letters: &'w [u8],
+    pub letters: &'w [u8],
     ghost short: { length letters.now ≤ 12 },
 }
 
@@ -38,13 +38,6 @@ impl<'w> ShortWord<'w> {
             return None;
         }
         Some(ShortWord { letters })
-    }
-
-    /// Its letters.
-    pub fn letters(self) -> &'w [u8]
-        ensures { result.now ≡ letters_of self.entry }
-    {
-        self.letters
     }
 
     /// How its polynomial is made.

@@ -24,7 +24,7 @@ pub(crate) fn write_polynomial<R: Ring>(
     ensures { sheet.new ≡ sheet_in R.ring shape.k (letters_of word.entry) }
 {
     match word.cut() {
-        Cut::Single => write_single(short_code(word.letters()), sheet),
+        Cut::Single => write_single(short_code(word.letters), sheet),
         Cut::Bracket(left, right) => {
             let (x, y) = write_parts(shape, left, right, spare);
             write_bracket(x, y, sheet);
@@ -63,7 +63,7 @@ fn count(shape: Shape, word: ShortWord) -> usize
     requires { length (letters_of word) ≤ shape.n }
     ensures { result ≡ shape.k ^ length (letters_of word.entry) }
 {
-    usize::from(shape.k).pow(word.letters().len() as u32)
+    usize::from(shape.k).pow(word.letters.len() as u32)
 }
 
 /// Writes the polynomial of the single word with this code.
