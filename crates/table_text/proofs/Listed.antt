@@ -1,7 +1,6 @@
 -- An entry of a table, by its number.
 use Rattle.std.proofs.Common.{◌≡◌, ℕ, ◌+◌, ◌*◌, ◌/◌, ◌^◌, ◌<◌, ◌≤◌, ◌⊎◌, List, [], ◌∷◌, map, length, get_or, sym, ap, ◌∙◌, subst, inl, inr, one-mul, pow-suc, div-one, arith, length-append}
 use native.Mathlib.Nat.{pow-zero}
-use Rattle.std.proofs.ByRecursion.{All-get_or}
 use Rattle.std.proofs.lemmas.Bool.{cases_lt}
 use Rattle.letter_order.specs.Orders.{by_value}
 use Rattle.lyndon.specs.declared.entry.Entry.{Entry}
@@ -39,7 +38,7 @@ module _ (s : Listed) where
   of_shape : OfShape k s.shape.n (word_at s)
   of_shape = entry_of_shape k s.shape.n s.shape.some es s.listed s.number s.named
 
-  pub size : length (word_at s) ≡ e.length
+  size : length (word_at s) ≡ e.length
   size = length-spelled k e.length e.code
 
   pub some_letters : 1 ≤ e.length
@@ -47,9 +46,6 @@ module _ (s : Listed) where
 
   pub few_letters : e.length ≤ s.shape.n
   few_letters = entry_short k s.shape.n s.shape.some es s.listed s.number s.named
-
-  pub letter_small : (i : ℕ) → i < length (word_at s) → get_or (word_at s) i 0 < 16
-  letter_small i h = omega (arith, All-get_or (λ x. x < k) (word_at s) i 0 h of_shape.letters, s.shape.letters)
 
   -- four bytes for each letter, less three
   pub text_size : length (text_of (word_at s)) + 3 ≡ 4 * e.length

@@ -1,4 +1,4 @@
--- The text of a word, and the line of an entry.
+-- The text of a word, and the lines of an entry and of a coordinate.
 -- 91 is [, 93 ], 44 the comma, 45 the minus sign, 32 the space, 10 the line feed.
 use Rattle.std.specs.Prelude.{◌≡◌, ℕ, zero, suc, ◌+◌, ◌*◌, ◌<◌, cond, List, [], ◌∷◌, ◌++◌, map, length, take, drop, Some, None, decimal, Option, ◌==◌, nat_lt}
 use Rattle.std.specs.List.{slice_get}
@@ -46,6 +46,10 @@ fields number word left right text =
 -- number, word, left, right and text of an entry over k letters
 abbrev pub line_of_entry : ℕ → ℕ → Entry → List ℕ
 line_of_entry k i e = fields i (map symbol (word k e)) (part e e.left) (part e e.right) (text_of (word k e))
+
+-- a word, and the value of its coordinate
+abbrev pub coordinate_line : List ℕ → ℕ → List ℕ
+coordinate_line w value = map symbol w ++ (32 ∷ (decimal value ++ 10 ∷ []))
 
 -- ---- line
 

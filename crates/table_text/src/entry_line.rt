@@ -3,28 +3,20 @@ ghost use Rattle.std.specs.Prelude.{◌≡◌, ◌+◌, ◌<◌, [], ◌∷◌, 
 ghost use Rattle.faults.specs.Outcome.{told};
 ghost use Rattle.lent_list.specs.Lent.{items, places, SameMemory};
 ghost use Rattle.lyndon.specs.Entries.{listing, no_entry};
+ghost use Rattle.coded_word.specs.Words.{word_of};
 ghost use Rattle.text.specs.Faults.{text_fault};
 ghost use Rattle.text.specs.Lines.{written, left as left_over};
 ghost use Rattle.text.specs.Pieces.{bytes_of};
 ghost use Rattle.table_text.specs.Lines.{symbol, pair, text_of, part, fields, line_of_entry};
 
+use crate::symbols::{LETTERS, put_word, symbol_of};
 use coded_word::{CodedWord, Shape};
 use lent_list::{Full, LentList};
 use lyndon::Entry;
 use text::{Piece, TextFault, write_pieces};
 
-/// The most letters that a word of a shape has, and the most bytes of its text.
-const LETTERS: usize = 12;
-
+/// The most bytes that the text of a word has.
 const BYTES: usize = 4 * LETTERS - 3;
-
-/// The symbol of a letter.
-fn symbol_of(letter: u8) -> u8
-    requires { letter < 16 }
-    ensures { result ≡ symbol letter }
-{
-    char::from_digit(u32::from(letter), 16).unwrap() as u8
-}
 
 /// The number of a part of an entry, which a letter has not.
 fn part_of(entry: Entry, number: u16) -> Piece<'static>
@@ -118,25 +110,18 @@ impl<'a> Listed<'a> {
         }
     }
 
-    /// Puts the symbols of its word behind a line.
-    #[tactic(auto, using(crate::proofs::Listed::some_letters, crate::proofs::Listed::few_letters, crate::proofs::Listed::coded, crate::proofs::Listed::size, crate::proofs::Listed::letter_small))]
-    fn put_word(self, line: &mut LentList<u8>) -> Result<(), Full>
-        ensures done { MatchResult result
-            (λ _. items line.new ≡ items line.old ++ map symbol (word_at self.entry))
-            (λ _. length (places line.old) < length (items line.old) + (entry_at self.entry).length) }
-        ensures lender { SameMemory line.old line.new }
+    /// Its word.
+    #[tactic(auto, using(crate::proofs::Listed::some_letters, crate::proofs::Listed::few_letters, crate::proofs::Listed::coded))]
+    fn word(self) -> CodedWord
+        ensures word { word_of result ≡ word_at self.entry }
+        ensures length { result.length ≡ (entry_at self.entry).length }
     {
         let entry = self.entry();
-        let word = CodedWord {
+        CodedWord {
             shape: self.shape,
             length: entry.length,
             code: entry.code,
-        };
-        let letters = word.letters();
-        for letter in letters.as_slice() {
-            line.push(symbol_of(*letter))?;
         }
-        Ok(())
     }
 
     /// Puts its text behind a line.
@@ -168,7 +153,7 @@ impl<'a> Listed<'a> {
         let entry = self.entry();
         let mut letters = [0; LETTERS];
         let mut word = LentList::new(&mut letters);
-        self.put_word(&mut word)?;
+        put_word(self.word(), &mut word)?;
         let mut bytes = [0; BYTES];
         let mut text = LentList::new(&mut bytes);
         self.put_text(&mut text)?;

@@ -1,4 +1,4 @@
-//! The entries of a table as text.
+//! The entries of a table, and coordinates, as text.
 
 #![tactic(auto)]
 
@@ -8,9 +8,12 @@ ghost use Rattle.bracket_table.specs.Faults.{table_fault};
 ghost use Rattle.bracket_table.specs.Seen.{view};
 ghost use Rattle.table_text.specs.Lines.{line_outcome, line_left, Texts};
 
+mod coordinate_line;
 mod entry_line;
+mod symbols;
 
 use bracket_table::{Table, TableFault};
+pub use coordinate_line::write_coordinate_line;
 use entry_line::Listed;
 
 /// Writes number, word, left, right and text of an entry to the front of a buffer, with a space between and a line

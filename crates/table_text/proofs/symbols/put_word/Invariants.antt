@@ -1,7 +1,7 @@
 use Rattle.std.proofs.Common.{◌≡◌, ◌+◌, ◌++◌, map, length, take}
 use Rattle.lent_list.specs.Lent.{items, places}
 use Rattle.table_text.specs.Lines.{symbol}
-use Rattle.table_text.proofs.entry_line.Listed.put_word.Given as goal
+use Rattle.table_text.proofs.symbols.put_word.Given as goal
 
 abbrev pub invariant-loop-letter : goal.invariant-loop-letter
 invariant-loop-letter l =
