@@ -7,7 +7,8 @@ use Rattle.lyndon.specs.declared.entry.Entry.{Entry}
 use Rattle.lyndon.specs.Entries.{word}
 use Rattle.lyndon.proofs.Codes.{length-spelled}
 use Rattle.text.specs.Lines.{header_line}
-use Rattle.table_text.specs.Lines.{line_of_entry, fields, part, symbol, text_of}
+use Rattle.text.specs.Symbols.{symbol}
+use Rattle.table_text.specs.Lines.{line_of_entry, fields, part, text_of}
 use Rattle.table_text.proofs.Texts.{texts}
 
 pub header_size : (k n count : ℕ) → k < 256 → n < 256 → count < 2 ^ 64 → length (header_line k n count) ≤ 32

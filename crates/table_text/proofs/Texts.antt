@@ -7,7 +7,8 @@ use Rattle.lyndon.specs.Words.{Split}
 use Rattle.lyndon.specs.Entries.{cut}
 use Rattle.lyndon.proofs.Codes.{by_value_total, cut_splits, cut_within}
 use Rattle.lyndon.proofs.Theorems.{split_once}
-use Rattle.table_text.specs.Lines.{symbol, pair, text, text_of, Texts}
+use Rattle.text.specs.Symbols.{symbol}
+use Rattle.table_text.specs.Lines.{pair, text, text_of, Texts}
 
 single : (m : ℕ) (w : List ℕ) → length w < 2 → text (suc m) w ≡ map symbol w
 unfolding text

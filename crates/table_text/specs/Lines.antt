@@ -9,12 +9,9 @@ use Rattle.lyndon.specs.declared.entry.Entry.{Entry}
 use Rattle.lyndon.specs.Words.{Split}
 use Rattle.lyndon.specs.Entries.{cut, word}
 use Rattle.text.specs.Lines.{written, left}
+use Rattle.text.specs.Symbols.{symbol}
 use Rattle.bracket_table.specs.Calls.{when_open, with_entry}
 use Rattle.bracket_table.specs.Views.{Dimensions, View}
-
--- the symbol of a letter: 0 to 9, a to f
-abbrev pub symbol : ℕ → ℕ
-symbol x = cond (nat_lt x 10) (48 + x) (87 + x)
 
 -- the text of a bracket, by the texts of its two parts
 abbrev pub pair : List ℕ → List ℕ → List ℕ

@@ -7,7 +7,8 @@ ghost use Rattle.coded_word.specs.Words.{word_of};
 ghost use Rattle.text.specs.Faults.{text_fault};
 ghost use Rattle.text.specs.Lines.{written, left as left_over};
 ghost use Rattle.text.specs.Pieces.{bytes_of};
-ghost use Rattle.table_text.specs.Lines.{symbol, pair, text_of, part, fields, line_of_entry};
+ghost use Rattle.text.specs.Symbols.{symbol};
+ghost use Rattle.table_text.specs.Lines.{pair, text_of, part, fields, line_of_entry};
 
 use crate::symbols::{LETTERS, put_word, symbol_of};
 use coded_word::{CodedWord, Shape};

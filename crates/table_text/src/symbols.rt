@@ -1,8 +1,8 @@
 //! The symbols of words.
 ghost use Rattle.std.specs.Prelude.{◌≡◌, ◌+◌, ◌<◌, ◌++◌, map, length, MatchResult};
 ghost use Rattle.lent_list.specs.Lent.{items, places, SameMemory};
+ghost use Rattle.text.specs.Symbols.{symbol};
 ghost use Rattle.coded_word.specs.Words.{word_of};
-ghost use Rattle.table_text.specs.Lines.{symbol};
 
 use coded_word::CodedWord;
 use lent_list::{Full, LentList};

@@ -4,3 +4,4 @@ pub mod Pieces
 pub mod Lines
 pub mod Reading
 pub mod Digits
+pub mod Symbols

@@ -1,6 +1,6 @@
 use Rattle.std.proofs.Common.{◌≡◌, ◌+◌, ◌++◌, map, length, take}
 use Rattle.lent_list.specs.Lent.{items, places}
-use Rattle.table_text.specs.Lines.{symbol}
+use Rattle.text.specs.Symbols.{symbol}
 use Rattle.table_text.proofs.symbols.put_word.Given as goal
 
 abbrev pub invariant-loop-letter : goal.invariant-loop-letter
