@@ -1,8 +1,11 @@
 -- The parts of a line, each read at the place i of the bytes bs, up to the place j. 32 is the space, 48 to 57 are the digits.
-use Rattle.std.specs.Prelude.{◌≡◌, ℕ, ◌+◌, ◌/◌, ◌%◌, ◌<◌, ◌≤◌, ◌⊎◌, List, length, Some, None, Ok, Err, Option, Result, ◌≢◌, slice_index}
+use Rattle.std.specs.Prelude.{◌≡◌, ℕ, ◌+◌, ◌-◌, ◌/◌, ◌%◌, ◌<◌, ◌≤◌, ◌⊎◌, List, length, take, drop, Some, None, Ok, Err, Option, Result, ◌≢◌, slice_index}
 use Rattle.text.specs.declared.fault.TextFault.{TextFault}
 use Rattle.text.specs.declared.fault.TextFault.TheVariants.{Malformed}
 use Rattle.text.specs.Digits.{Digit}
+use Rattle.text.specs.Reading.{Begins}
+use Rattle.input_text.specs.Symbols.{NoSymbol}
+use Rattle.input_text.specs.declared.symbols.Symbols.{Symbols}
 
 abbrev pub DigitAt : List ℕ → ℕ → Option ℕ → Type 0
 DigitAt bs i (Some d) = (i < length bs) × (d < 10) × (slice_index bs i ≡ 48 + d)
@@ -27,6 +30,10 @@ NumberAt bs i j (Err f) = DigitAt bs i None × (f ≡ Malformed i)
 abbrev pub SpaceAt : List ℕ → ℕ → ℕ → Result Unit TextFault → Type 0
 SpaceAt bs i j (Ok done) = (i < length bs) × (slice_index bs i ≡ 32) × (j ≡ i + 1)
 SpaceAt bs i j (Err f) = (i < length bs → slice_index bs i ≢ 32) × (f ≡ Malformed i)
+
+abbrev pub WordAt : List ℕ → ℕ → ℕ → Result Symbols TextFault → Type 0
+WordAt bs i j (Ok s) = (i < j) × (j ≤ length bs) × (take (j - i) (drop i bs) ≡ s.bytes.now) × Begins NoSymbol (drop j bs)
+WordAt bs i j (Err f) = Begins NoSymbol (drop i bs) × (f ≡ Malformed i)
 
 abbrev pub EndAt : List ℕ → ℕ → Result Unit TextFault → Type 0
 EndAt bs i (Ok done) = length bs ≤ i

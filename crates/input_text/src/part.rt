@@ -1,8 +1,9 @@
 //! Reading a line part by part.
 ghost use Rattle.std.specs.Prelude.{◌≡◌};
 ghost use Rattle.text.specs.declared.fault.TextFault.TheVariants.{Malformed};
-ghost use Rattle.input_text.specs.Parts.{DigitAt, NumberAt, SpaceAt, EndAt, place_behind};
+ghost use Rattle.input_text.specs.Parts.{DigitAt, NumberAt, SpaceAt, WordAt, EndAt, place_behind};
 
+use crate::symbols::Symbols;
 use text::TextFault;
 
 /// A line, and the place from which on it is left to read.
@@ -48,6 +49,18 @@ impl<'a> LineReader<'a> {
         }
         self.place += 1;
         Ok(())
+    }
+
+    /// Reads a word: all symbols that come next, and at least one.
+    pub(crate) fn word(&mut self) -> Result<Symbols<'a>, TextFault>
+        ensures line { self.new.line.now ≡ self.old.line.now }
+        ensures word { WordAt self.old.line.now self.old.place self.new.place result }
+    {
+        let Some(word) = self.line.get(self.place..).and_then(Symbols::leading) else {
+            return Err(self.fault());
+        };
+        self.place += word.count();
+        Ok(word)
     }
 
     /// Checks that the line ends here.

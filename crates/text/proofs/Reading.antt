@@ -1,7 +1,7 @@
 -- Reading a text state by state, and what a text comes to.
-use Rattle.std.proofs.Common.{◌≡◌, ℕ, suc, ◌+◌, ◌-◌, ◌<◌, ◌≤◌, List, [], ◌∷◌, ◌++◌, length, take, drop, sym, refl, ap, ◌∙◌, inl, inr, append_assoc, zero-add, arith, length-append, take-append-drop}
-use Rattle.std.proofs.lemmas.List.{drop_all, drop-drop, length-drop, length-take-le, take-take}
-use Rattle.std.proofs.lemmas.Bool.{cases_order}
+use Rattle.std.proofs.Common.{◌≡◌, ℕ, suc, ◌+◌, ◌-◌, ◌<◌, ◌≤◌, List, [], ◌∷◌, ◌++◌, length, get_or, take, drop, sym, refl, ap, ◌∙◌, inl, inr, append_assoc, zero-add, arith, length-append, take-append-drop}
+use Rattle.std.proofs.lemmas.List.{drop_all, drop_more, drop-drop, length-drop, length-take-le, take-take}
+use Rattle.std.proofs.lemmas.Bool.{cases_lt, cases_order}
 use Rattle.text.specs.Reading.{Viable, Stops, Begins, Halts, Leads}
 
 take-over : (u t : List ℕ) (n : ℕ) → take (length u + n) (u ++ t) ≡ u ++ take n t
@@ -24,6 +24,13 @@ Any c = Unit {0}
 pub begins_any : (t : List ℕ) → Begins Any t
 begins_any [] = tt
 begins_any (c ∷ t) = tt
+
+pub begins_at : (P : ℕ → Type 0) (bs : List ℕ) (i : ℕ) → (i < length bs → P (get_or bs i 0)) → Begins P (drop i bs)
+begins_at P bs i p =
+    elim (cases_lt i (length bs)) [
+      | inl h ↦ rw (drop_more bs i 0 h) (p h)
+      | inr h ↦ rw (drop_all i bs h) tt
+    ]
 
 -- the bytes from the place i up to j
 abbrev pub part : List ℕ → ℕ → ℕ → List ℕ

@@ -1,0 +1,11 @@
+-- The letters of symbols.
+use Rattle.std.specs.Prelude.{ℕ, ◌-◌, Bool, cond, ◌&&◌, ◌==◌, nat_lt}
+use Rattle.text.specs.Symbols.{symbol}
+
+-- the letter of a symbol
+abbrev pub letter : ℕ → ℕ
+letter c = cond (nat_lt c 58) (c - 48) (c - 87)
+
+-- whether a byte is the symbol of a letter below 16
+abbrev pub is_symbol : ℕ → Bool
+is_symbol c = nat_lt (letter c) 16 && symbol (letter c) == c
