@@ -2,9 +2,11 @@
 """What the programs print, computed another way: `reference.py PROGRAM < INPUT`.
 
 It shares nothing with the library: texts are matched by regular expressions; factors are read off the order of a
-word's suffixes, where the library goes over the word once by Duval's algorithm; and words of a table are tuples of
-letters, tested against their rotations, where the library counts through their codes.
+word's suffixes, where the library goes over the word once by Duval's algorithm; words of a table are tuples of
+letters, tested against their rotations, where the library counts through their codes; and polynomials are
+dictionaries of whole numbers, multiplied out word by word, where the library has sheets that are indexed by codes.
 """
+import functools
 import itertools
 import re
 import sys
@@ -116,7 +118,73 @@ def table(data):
     return "".join(lines)
 
 
-PROGRAMS = {"table": table, "trace": trace}
+def product(x, y):
+    """xy of two polynomials: the coefficient of each word, without zeros."""
+    # the words of a polynomial have one length, so that no two pairs of words make the same one
+    return {u + v: a * b for u, a in x.items() for v, b in y.items()}
+
+
+def difference(x, y):
+    words = {word: x.get(word, 0) - y.get(word, 0) for word in x.keys() | y.keys()}
+    return {word: value for word, value in words.items() if value}
+
+
+@functools.cache
+def bracket(word):
+    """P of a Lyndon word."""
+    if len(word) == 1:
+        return {word: 1}
+    left, right = map(bracket, parts(word))
+    return difference(product(left, right), product(right, left))
+
+
+def polynomial(word):
+    """P of a word: the product of P of its factors."""
+    starts = factor_starts(word)
+    return functools.reduce(product, (bracket(word[i:j]) for i, j in zip(starts, starts[1:] + [len(word)])))
+
+
+MODULUS = 2**64
+
+
+def coordinates(sheet):
+    """Each word with its coordinate, where that is not zero: P of the least word that is left has it once, and no
+    lower one."""
+    left = {word: value % MODULUS for word, value in sheet.items()}
+    while left:
+        word = min(left)
+        value = left[word]
+        yield word, value
+        for other, coefficient in polynomial(word).items():
+            left[other] = (left.get(other, 0) - value * coefficient) % MODULUS
+            if not left[other]:
+                del left[other]
+
+
+WORD = rb"([0-9a-f]+)"
+WORDS = re.compile(NUMBER + b" " + WORD + b" " + WORD)
+
+
+def coords(data):
+    line = first_line(data)
+    if line is None:
+        return "fault 14\n"
+    found = WORDS.fullmatch(line)
+    if not found:
+        return "fault 15\n"
+    k = int(found[1])
+    u, v = (tuple(int(symbol, 16) for symbol in found[i].decode()) for i in (2, 3))
+    fault = shape_fault(k, len(u + v))
+    if fault:
+        return f"fault {fault}\n"
+    if max(u + v) >= k:
+        return "fault 13\n"
+    sheet = difference({u + v: 1}, {v + u: 1})
+    lines = ["".join(SYMBOLS[letter] for letter in word) + f" {value}\n" for word, value in coordinates(sheet)]
+    return "".join(lines) or "0\n"
+
+
+PROGRAMS = {"coords": coords, "table": table, "trace": trace}
 
 
 if __name__ == "__main__":
