@@ -137,3 +137,11 @@ module _ (k n m c : ℕ) (here : k ^ m ≤ c) where
   rest_none h =
       let a : n - m ≡ 0 = omega arith in
       rw (no_more, a)
+
+-- none of those is shorter
+pub rest_each : (k n m c l : ℕ) → l ≤ m → AllByRecursion (λ x. l ≤ x.0) (rest k n m c)
+unfolding rest
+rest_each k n m c l h =
+    All-append (λ x. l ≤ x.0) (codes k m c (k ^ m - c)) (lengths k (m + 1) (n - m))
+    (All-weaker (Coded k m c (c + (k ^ m - c))) (λ x. l ≤ x.0) (λ x a. omega (arith, a.size)) (codes k m c (k ^ m - c)) (codes_each k m c (k ^ m - c) (c + (k ^ m - c)) (omega arith)))
+    (All-weaker (Keyed k (m + 1) (m + 1 + (n - m))) (λ x. l ≤ x.0) (λ x a. omega (arith, a.least)) (lengths k (m + 1) (n - m)) (lengths_each k (m + 1) (n - m) (m + 1 + (n - m)) (omega arith)))
