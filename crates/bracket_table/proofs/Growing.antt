@@ -71,7 +71,7 @@ module _ (s : Option Cursor) (x : Cursor) (is : s ≡ Some x) (es : List Entry) 
   few = omega (arith, few_words, long, length-take (length es) (listing k n), ap length known)
 
   module _ (missing : drop (length es) (keys_in s) ≡ rest_in s) where
-    left : drop (length es) (keys k n) ≡ rest k n x.length x.code
+    pub left : drop (length es) (keys k n) ≡ rest k n x.length x.code
     left = subst (λ y. drop (length es) (keys_in y) ≡ rest_in y) is missing
 
     pub complete : (room : ℕ) → rest k n x.length x.code ≡ [] → refused (found 9 layer.Table 0 0) ≡ grow_in (dimensions s) (length es) room

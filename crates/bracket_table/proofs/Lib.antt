@@ -5,3 +5,4 @@ mod Finding
 mod Same
 mod Shapes
 pub mod Named
+pub mod Lacking

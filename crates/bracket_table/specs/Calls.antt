@@ -1,7 +1,7 @@
 -- What the calls on a table come to.
-use Rattle.std.specs.Prelude.{ℕ, suc, cond, List, [], ◌∷◌, ◌++◌, length, Some, None, Option, nat_le, slice_index_or}
+use Rattle.std.specs.Prelude.{ℕ, suc, Bool, cond, not, ◌&&◌, List, [], ◌∷◌, ◌++◌, length, Some, None, Option, is_none, nat_le, slice_index_or}
 use Rattle.std.specs.Ordering.{is_eq}
-use Rattle.std.specs.List.{slice_get}
+use Rattle.std.specs.List.{list_any, slice_get}
 use Rattle.faults.specs.declared.Layer.TheVariants as layer
 use Rattle.faults.specs.Faults.{found}
 use Rattle.faults.specs.Outcome.{Outcome, refuse_if, passed_up, checked}
@@ -69,3 +69,16 @@ find_outcome v w =
     when_open v.shape (λ s.
     checked (passed_up layer.Table (length_checked s.n (length w)))
     (checked (passed_up layer.Table (letters_checked s.k w)) (answered (found_from 0 (words s.k v.entries) w))))
+
+-- ---- is_complete_to
+
+-- has w at most m letters, and is it none of vs?
+abbrev pub misses : ℕ → List (List ℕ) → List ℕ → Bool
+misses m vs w = nat_le (length w) m && is_none (found_from 0 vs w)
+
+-- is there a Lyndon word of the shape k, n that has at most m letters, and is the word of no entry?
+abbrev pub lacks : ℕ → ℕ → ℕ → List Entry → Bool
+lacks k n m es = list_any (misses m (words k es)) (words k (listing k n))
+
+abbrev pub complete_outcome : View → ℕ → Outcome Bool
+complete_outcome v m = when_open v.shape (λ s. answered (not (lacks s.k s.n m v.entries)))

@@ -4,7 +4,7 @@ ghost use Rattle.faults.specs.Outcome.{told};
 ghost use Rattle.lent_list.specs.Lent.{items, places, SameMemory};
 ghost use Rattle.lyndon.specs.Entries.{no_entry};
 ghost use Rattle.lyndon.specs.Theorems.{Listings};
-ghost use Rattle.bracket_table.specs.Calls.{opened, grow_outcome, grown, look_outcome, find_outcome};
+ghost use Rattle.bracket_table.specs.Calls.{opened, grow_outcome, grown, look_outcome, find_outcome, complete_outcome};
 ghost use Rattle.bracket_table.specs.Faults.{table_fault};
 ghost use Rattle.bracket_table.specs.Held.{IsNext};
 ghost use Rattle.bracket_table.specs.Search.{entry_for};
@@ -84,6 +84,20 @@ impl<'a> Table<'a> {
         let cursor = self.cursor()?;
         let word = CodedWord::read(cursor.shape, letters)?;
         Ok(self.number_of(word))
+    }
+
+    /// Whether every Lyndon word of the shape that has at most so many letters is an entry.
+    #[tactic(auto, using(crate::proofs::Lacking::completes))]
+    pub fn is_complete_to(&self, letters: usize) -> Result<bool, TableFault>
+        ensures outcome { told (λ yes. yes) table_fault result ≡ complete_outcome (view self.now) letters }
+    {
+        let cursor = self.cursor()?;
+        // no missing word is shorter than the place where the scan goes on, so often nothing need be scanned
+        if usize::from(cursor.length) > letters {
+            return Ok(true);
+        }
+        let missing = cursor.next();
+        Ok(missing.is_none_or(|word| usize::from(word.length) > letters))
     }
 
     /// The shape, where the table is open.

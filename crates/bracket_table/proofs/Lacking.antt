@@ -1,0 +1,152 @@
+-- Which Lyndon words of a shape are no entries, over plain lists.
+use Rattle.std.proofs.Common.{◌≡◌, ℕ, suc, ◌+◌, ◌<◌, ◌≤◌, Bool, true, false, not, ◌||◌, ◌⊎◌, List, [], ◌∷◌, ◌++◌, map, length, take, drop, Some, None, is_some, is_none, nat_le, nat_lt, Decides, Ordering, sym, refl, ap, ◌∙◌, subst, inl, inr, arith, take-append-drop}
+use Rattle.std.specs.Ordering.{is_eq}
+use Rattle.std.specs.Cmp.{Equal-is}
+use Rattle.std.specs.List.{AllByRecursion, list_any}
+use Rattle.std.proofs.ByRecursion.{All-weaker, All-map}
+use Rattle.std.proofs.lemmas.Bool.{cases_Bool, cases_lt, both_ways, false≢true, false_from_ne_true, leb-true, le-leb, lt-ltb, le-ltb}
+use Rattle.std.proofs.lemmas.Bool.Decides.{Decides-and, Decides-or, Decides-not, Decides-like, not_from_Decides}
+use Rattle.std.proofs.lemmas.List.{take-map, drop-map}
+use Rattle.faults.specs.Outcome.Outcome.{answered}
+use Rattle.letter_order.specs.Orders.{by_value}
+use Rattle.lyndon.specs.declared.entry.Entry.{Entry}
+use Rattle.lyndon.specs.Words.{dictionary}
+use Rattle.lyndon.specs.Codes.{spelled, Listed}
+use Rattle.lyndon.specs.Listing.{OfShape, In, Rising, keys}
+use Rattle.lyndon.specs.Entries.{listing, word, words}
+use Rattle.lyndon.proofs.Codes.{by_value_total, length-spelled}
+use Rattle.lyndon.proofs.Dictionary.{dictionary_total}
+use Rattle.lyndon.proofs.Entries.{words_listed, words_rising, word_in}
+use Rattle.lyndon.proofs.Keys.{rest_each}
+use Rattle.lyndon.proofs.Missing.{not_twice}
+use Rattle.lyndon.proofs.Rises.{in_all, in_either, in_map, in_right}
+use Rattle.coded_word.specs.declared.coded.CodedWord.{CodedWord}
+use Rattle.coded_word.specs.declared.coded.Cursor.{Cursor}
+use Rattle.coded_word.specs.Scan.{FirstFrom, left_from}
+use Rattle.lent_list.specs.Lent.{items}
+use Rattle.bracket_table.specs.Calls.{found_from, misses, lacks, complete_outcome}
+use Rattle.bracket_table.specs.Seen.{view}
+use Rattle.bracket_table.specs.declared.Table.{Table}
+use Rattle.bracket_table.proofs.Growing.{known, left}
+
+-- a word is found where it is one of them
+found_in : (i : ℕ) (vs : List (List ℕ)) (w : List ℕ) → Decides (is_some (found_from i vs w)) (In w vs)
+found_in i [] w = (λ e. absurd (false≢true e), λ h. absurd h)
+found_in i (v ∷ vs) w = go (cases_Bool (is_eq r)) (found_in (suc i) vs w)
+  where
+    r : Ordering
+    r = dictionary by_value v w
+
+    same : Decides (is_eq r) (v ≡ w)
+    same = (λ e. ((dictionary_total by_value_total).same v w).0 ((Equal-is r).0 e), λ e. (Equal-is r).1 (((dictionary_total by_value_total).same v w).1 e))
+
+    go : (is_eq r ≡ true) ⊎ (is_eq r ≡ false) → Decides (is_some (found_from (suc i) vs w)) (In w vs) → Decides (is_some (found_from i (v ∷ vs) w)) (In w (v ∷ vs))
+    go (inl t) more = rw t (λ e. inl (sym (same.0 t)), λ h. refl)
+    go (inr t) more = rw t (λ e. inr (more.0 e), λ h. elim h [ inl q ↦ absurd (both_ways (is_eq r) t (same.1 (sym q))) | inr k ↦ more.1 k ])
+
+-- a test that some element passes
+any_in : {A : Type 0} (p : A → Bool) (P : A → Type 0) → ((x : A) → Decides (p x) (P x)) → (xs : List A) → Decides (list_any p xs) ((x : A) × In x xs × P x)
+any_in p P each [] = (λ e. absurd (false≢true e), λ h. absurd h.1)
+any_in {A} p P each (y ∷ xs) = Decides-like (p y || list_any p xs) to from (Decides-or (p y) (list_any p xs) (each y) (any_in p P each xs))
+  where
+    to : P y ⊎ ((x : A) × In x xs × P x) → (x : A) × In x (y ∷ xs) × P x
+    to (inl a) = (y, inl refl, a)
+    to (inr h) = (h.0, inr h.1, h.2)
+
+    from : (x : A) × In x (y ∷ xs) × P x → P y ⊎ ((x : A) × In x xs × P x)
+    from (x, inl q, a) = inl (subst P q a)
+    from (x, inr i, a) = inr (x, i, a)
+
+-- a word of ws that has at most m letters and is none of vs
+abbrev Lacking : ℕ → List (List ℕ) → List (List ℕ) → Type 0
+Lacking m vs ws = (w : List ℕ) × In w ws × ((length w ≤ m) × (In w vs → ⊥))
+
+lacking : (m : ℕ) (vs ws : List (List ℕ)) → Decides (list_any (misses m vs) ws) (Lacking m vs ws)
+lacking m vs ws =
+    any_in (misses m vs) (λ w. (length w ≤ m) × (In w vs → ⊥)) (λ w.
+    Decides-and (nat_le (length w) m) (is_none (found_from 0 vs w)) (leb-true (length w) m, le-leb (length w) m) (Decides-not (is_some (found_from 0 vs w)) (found_in 0 vs w))) ws
+
+-- where none is lacking, each Lyndon word of the shape with at most m letters is the word of an entry
+pub all_there : (k n m : ℕ) → 1 ≤ k → (es : List Entry) → lacks k n m es ≡ false → (w : List ℕ) → OfShape k n w → length w ≤ m → In w (words k es)
+all_there k n m some es full w W l =
+    elim (cases_Bool (is_some (found_from 0 (words k es) w))) [
+      | inl e ↦ (found_in 0 (words k es) w).0 e
+      | inr e ↦
+          let i = subst (In w) (sym (words_listed k n some)) (word_in k n some w W) in
+          absurd (not_from_Decides (lacks k n m es) (lacking m (words k es) (words k (listing k n))) full (w, i, (l, not_from_Decides (is_some (found_from 0 (words k es) w)) (found_in 0 (words k es) w) e)))
+    ]
+
+module _ (k n : ℕ) (some : 1 ≤ k) (es : List Entry) (listed : es ≡ take (length es) (listing k n)) where
+  abbrev spell : ℕ × ℕ → List ℕ
+  spell x = spelled k x.0 x.1
+
+  module _ (xs : List (ℕ × ℕ)) (left : drop (length es) (keys k n) ≡ xs) where
+    -- the words of the entries, and those that are left
+    parted : words k (listing k n) ≡ words k es ++ map spell xs
+    parted =
+        let front : take (length es) (words k (listing k n)) ≡ words k es = take-map (word k) (length es) (listing k n) ∙ ap (words k) (sym listed) in
+        let back : drop (length es) (words k (listing k n)) ≡ map spell xs = ap (drop (length es)) (words_listed k n some) ∙ (drop-map spell (length es) (keys k n) ∙ ap (map spell) left) in
+        sym (take-append-drop (length es) (words k (listing k n))) ∙ (λ i. front i ++ back i)
+
+    up : Rising Listed (words k es ++ map spell xs)
+    up = subst (Rising Listed) (sym (words_listed k n some) ∙ parted) (words_rising k n some)
+
+    pub all_long : (m : ℕ) → AllByRecursion (λ x. m < x.0) xs → false ≡ lacks k n m es
+    all_long m a = sym (false_from_ne_true (lacks k n m es) (λ e. no ((lacking m (words k es) (words k (listing k n))).0 e)))
+      where
+        long : AllByRecursion (λ w. m < length w) (map spell xs)
+        long = All-map (λ w. m < length w) spell xs (All-weaker (λ x. m < x.0) (λ x. m < length (spell x)) (λ x l. rw length-spelled l) xs a)
+
+        no : Lacking m (words k es) (words k (listing k n)) → ⊥
+        no h =
+            elim (in_either h.0 (words k es) (map spell xs) (subst (In h.0) parted h.1)) [
+              | inl i ↦ h.2.1 i
+              | inr i ↦ omega (arith, h.2.0, in_all (λ w. m < length w) h.0 (map spell xs) long i)
+            ]
+
+    pub first_short : (m : ℕ) (x : ℕ × ℕ) → In x xs → x.0 ≤ m → true ≡ lacks k n m es
+    first_short m x i l =
+        let w = spell x in
+        let j = in_map spell x xs i in
+        sym ((lacking m (words k es) (words k (listing k n))).1 (w, subst (In w) (sym parted) (in_right w (words k es) (map spell xs) j), (rw length-spelled l, not_twice (words k es) (map spell xs) up w j)))
+
+-- ---- of a table
+
+module _ (t : Table) (x : Cursor) (is : t.next ≡ Some x) (m : ℕ) where
+  abbrev k : ℕ
+  k = x.shape.k
+
+  abbrev n : ℕ
+  n = x.shape.n
+
+  abbrev es : List Entry
+  es = items t.entries
+
+  listed : es ≡ take (length es) (listing k n)
+  listed = known t.next x is es t.listed
+
+  missing : drop (length es) (keys k n) ≡ left_from x
+  missing = left t.next x is es t.listed t.missing
+
+  says : (b : Bool) → b ≡ lacks k n m es → answered (not b) ≡ complete_outcome (view t) m
+  says b e = rw (is, e) refl
+
+  none_left : AllByRecursion (λ y. m < y.0) (left_from x) → answered true ≡ complete_outcome (view t) m
+  none_left a = says false (all_long k n x.shape.some es listed (left_from x) missing m a)
+
+  -- the scan has come to longer words
+  pub complete_far : m < x.length → answered true ≡ complete_outcome (view t) m
+  complete_far l = none_left (rest_each k n x.length x.code (suc m) l)
+
+  pub complete_none : FirstFrom x None → answered true ≡ complete_outcome (view t) m
+  complete_none e = none_left (rw e tt)
+
+  pub complete_next : (w : CodedWord) → FirstFrom x (Some w) → answered (nat_lt m w.length) ≡ complete_outcome (view t) m
+  complete_next w N =
+      elim (cases_lt m w.length) [
+        | inl l ↦ rw (lt-ltb m w.length l) (none_left (rw N.1 (l, rest_each k n w.length (w.code + 1) (suc m) l)))
+        | inr l ↦ rw (le-ltb m w.length l) (says true (first_short k n x.shape.some es listed (left_from x) missing m (w.length, w.code) (rw N.1 (inl refl)) l))
+      ]
+
+-- what the answer follows from
+pub ruleset completes = (complete_far, complete_none, complete_next)
