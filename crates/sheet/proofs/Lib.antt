@@ -1,6 +1,7 @@
-pub mod Places
 pub mod Products
-pub mod Sheets
-pub mod WordSheets
-pub mod Rooms
-pub mod Images
+pub mod Joined
+pub mod Sums
+pub mod Parts
+pub mod Multiples
+pub mod Expanded
+pub mod StepByStep

@@ -6,12 +6,13 @@ use Rattle.faults.specs.Faults.{found, passed}
 use Rattle.faults.specs.Outcome.{Outcome, refuse_if, checked}
 use Rattle.faults.specs.Outcome.Outcome.{answered, refused}
 use Rattle.ring_laws.specs.Rings.{Operations}
-use Rattle.bracket_table.specs.Calls.{when_open, with_entry}
+use Rattle.bracket_table.specs.Calls.{when_open, with_entry, lacks}
 use Rattle.bracket_table.specs.Views.{Dimensions, View}
 use Rattle.lyndon.specs.declared.entry.Entry.{Entry}
 use Rattle.lyndon.specs.Entries.{word}
 use Rattle.polynomial.specs.Polynomials.{P}
-use Rattle.sheet.specs.Sheets.{sheet_of, bracket}
+use Rattle.sheet_laws.specs.Sheets.{sheet_of, bracket}
+use Rattle.sheet_laws.specs.Coordinates.{combined, Coordinates}
 
 -- what a call of the table layer comes to, which this layer makes, and what follows where it answers
 abbrev pub followed : {X Y : Type 0} → Outcome X → (X → Outcome Y) → Outcome Y
@@ -55,3 +56,30 @@ join_outcome v a x b y size =
 abbrev pub joined_in : {A : Type 0} → Operations A → Option Dimensions → ℕ → List A → ℕ → List A → List A
 joined_in ring None a x b y = []
 joined_in ring (Some s) a x b y = sheet_of s.k (a + b) (bracket ring s.k a b x y)
+
+-- ---- into and back
+
+-- m is to be a length of words
+abbrev pub length_checked : ℕ → ℕ → Outcome (Unit {0})
+length_checked n m = refuse_if (m == 0 || nat_lt n m) (found 12 layer.Sheet 0 0) (answered tt)
+
+-- each Lyndon word of at most m letters is to be the word of an entry
+abbrev pub entries_checked : ℕ → ℕ → ℕ → List Entry → Outcome (Unit {0})
+entries_checked k n m es = refuse_if (lacks k n m es) (found 11 layer.Sheet 0 0) (answered tt)
+
+-- for a sheet of length m with so many values
+abbrev pub conversion_outcome : View → ℕ → ℕ → Outcome (Unit {0})
+conversion_outcome v m size =
+    when_shaped v (λ s.
+    checked (length_checked s.n m)
+    (checked (size_checked s.k m size) (entries_checked s.k s.n m v.entries)))
+
+-- c are the coordinates of a sheet of length m
+abbrev pub CoordinatesIn : {A : Type 0} → Operations A → Option Dimensions → ℕ → List A → List A → Type 0
+CoordinatesIn ring None m sheet c = ⊥
+CoordinatesIn ring (Some s) m sheet c = Coordinates ring s.k m sheet c
+
+-- the sheet of length m with these coordinates
+abbrev pub combined_in : {A : Type 0} → Operations A → Option Dimensions → ℕ → List A → List A
+combined_in ring None m c = []
+combined_in ring (Some s) m c = combined ring s.k m c

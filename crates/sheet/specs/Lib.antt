@@ -1,5 +1,4 @@
-pub mod Sheets
 pub mod Products
-pub mod WordSheets
+pub mod Words
 pub mod Calls
 pub mod Faults

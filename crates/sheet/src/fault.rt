@@ -10,6 +10,8 @@ use faults::{Fault, Layer};
 pub enum SheetFault {
     /// A sheet has not as many values as there are words of its length.
     OtherSize,
+    /// A Lyndon word of at most so many letters is no entry.
+    Incomplete,
     /// No word of the table has so many letters.
     OtherLength,
     /// A fault of the table layer.
@@ -24,6 +26,7 @@ impl From<SheetFault> for Fault {
     fn from(refused: SheetFault) -> Fault {
         let number = match refused {
             SheetFault::OtherSize => 5,
+            SheetFault::Incomplete => 11,
             SheetFault::OtherLength => 12,
             SheetFault::Table(lower) => return Fault::from(lower).passed_by(Layer::Sheet),
         };

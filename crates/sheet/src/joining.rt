@@ -12,7 +12,7 @@ use bracket_table::Table;
 use ring::Ring;
 
 /// Writes xy - yx to a third sheet, for a sheet x of length a and a sheet y of length b.
-#[tactic(auto, using(crate::proofs::Places::joint_size, crate::proofs::Sheets::joined))]
+#[tactic(auto, using(sheet_laws::proofs::Places::joint_size, crate::proofs::Joined::joined))]
 pub fn join<R: Ring>(
     table: &mut Table,
     a: usize,

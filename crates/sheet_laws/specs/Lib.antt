@@ -1,0 +1,4 @@
+pub mod Sheets
+pub mod Coordinates
+pub mod Terms
+pub mod Steps
