@@ -44,10 +44,14 @@ impl<'w> ShortWord<'w> {
     pub fn cut(self) -> Cut<'w>
         ensures { Cuts (letters_of self.entry) result }
     {
-        if let Some((factor, rest)) = self.first_factor() {
-            Cut::Product(factor, rest)
-        } else if let Some((left, right)) = self.split() {
+        if self.letters.len() < 2 {
+            return Cut::Single;
+        }
+        // the split first: most parts of a word are Lyndon
+        if let Some((left, right)) = self.split() {
             Cut::Bracket(left, right)
+        } else if let Some((factor, rest)) = self.first_factor() {
+            Cut::Product(factor, rest)
         } else {
             Cut::Single
         }
