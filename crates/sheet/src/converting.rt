@@ -139,6 +139,7 @@ fn word_at(shape: Shape, m: u8, place: usize) -> CodedWord
     }
 }
 
+/// Whether a value is zero.
 fn is_zero<R: Ring>(value: R) -> bool
     ensures { IsTrue result ↔ (value ≡ R.ring.zero) }
 {
