@@ -23,9 +23,11 @@ pub enum Case {
     Text(&'static [u8], &'static [u8]),
     /// Over so many letters, P of a word has these coefficients, each at the code of its word.
     Polynomial(u8, &'static [u8], &'static [i16]),
+    /// Over so many letters, a word has these coordinates, each at the code of its word.
+    Coordinates(u8, &'static [u8], &'static [i16]),
 }
 
-const CASES: [Case; 10] = [
+const CASES: [Case; 11] = [
     Case::Factors(&[0, 0, 1, 0, 0, 1], &[&[0, 0, 1], &[0, 0, 1]]),
     Case::Factors(&[1, 0], &[&[1], &[0]]),
     Case::Factors(&[0, 1, 0, 1], &[&[0, 1], &[0, 1]]),
@@ -40,11 +42,12 @@ const CASES: [Case; 10] = [
     Case::Entry(2, 5, 12, &[0, 1, 0, 1, 1], 2, 4),
     Case::Text(&[0, 0, 1, 1, 0, 1], b"[[0,[[0,1],1]],[0,1]]"),
     Case::Polynomial(2, &[0, 0, 1], &[0, 1, -2, 0, 1, 0, 0, 0]),
+    Case::Coordinates(2, &[0, 0, 1], &[0, 1, 2, 0, 1, 0, 0, 0]),
 ];
 
 /// All of them.
 #[tactic(auto, unfolding(lyndon::specs::Listing::lyndon, lyndon::specs::Listing::codes, lyndon::specs::Listing::lengths, lyndon::specs::Listing::keys, lyndon::specs::Entries::listing, table_text::specs::Lines::text, polynomial::specs::Polynomials::poly))]
-pub fn cases() -> [Case; 10]
+pub fn cases() -> [Case; 11]
     ensures { AllHold result }
 {
     CASES
