@@ -5,8 +5,10 @@
 ghost use Rattle.worked_cases.specs.Holds.{AllHold};
 
 mod eleven_grows;
+mod round_trips;
 
 pub use eleven_grows::entry_ten;
+pub use round_trips::{back_then_into, into_then_back};
 
 /// A fact on letters 0, 1, .. ordered by their value.
 #[derive(Clone, Copy)]
