@@ -18,6 +18,10 @@ fault_line number = codes "fault " ++ (decimal number ++ 10 ∷ [])
 abbrev pub header_line : ℕ → ℕ → ℕ → List ℕ
 header_line k n count = decimal k ++ (32 ∷ (decimal n ++ (32 ∷ (decimal count ++ 10 ∷ []))))
 
+-- a number alone
+abbrev pub number_line : ℕ → List ℕ
+number_line number = decimal number ++ 10 ∷ []
+
 -- A line is written by what the call answers and by what stands in the buffer then: each contract says both, in a word each.
 
 -- how many bytes are written into a buffer, which may be too short

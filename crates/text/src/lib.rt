@@ -8,4 +8,6 @@ mod line;
 
 pub use fault::TextFault;
 pub use input::first_line;
-pub use line::{Piece, write_factor_line, write_fault_line, write_header_line, write_pieces};
+pub use line::{
+    Piece, write_factor_line, write_fault_line, write_header_line, write_number_line, write_pieces,
+};

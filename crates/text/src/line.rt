@@ -2,7 +2,7 @@
 ghost use Rattle.std.specs.Prelude.{◌≡◌};
 ghost use Rattle.faults.specs.Outcome.{told};
 ghost use Rattle.text.specs.Faults.{text_fault};
-ghost use Rattle.text.specs.Lines.{factor_line, fault_line, header_line, written, left};
+ghost use Rattle.text.specs.Lines.{factor_line, fault_line, header_line, number_line, written, left};
 
 // Not by `Display` and `write!`: what these promise is what is written if they succeed, and not that they do where there
 // is room. The separators stand among the pieces of each line: one list says all of its bytes, and `write_pieces` serves
@@ -64,4 +64,13 @@ pub fn write_header_line(
         ],
         buffer,
     )
+}
+
+/// Writes a number, with a line feed behind.
+/// Answers how many bytes were written. A buffer that is too short stays as it was.
+pub fn write_number_line(number: u64, buffer: &mut [u8]) -> Result<usize, TextFault>
+    ensures outcome { told (λ n. n) text_fault result ≡ written (number_line number) buffer.old }
+    ensures buffer { buffer.new ≡ left (number_line number) buffer.old }
+{
+    write_pieces(&[Piece::Number(number), Piece::Bytes(b"\n")], buffer)
 }
