@@ -1,4 +1,3 @@
 mod Sizes
-mod Grown
 mod Shown
 mod Reports

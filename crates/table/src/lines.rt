@@ -6,9 +6,10 @@ ghost use Rattle.bracket_table.specs.Calls.{opened};
 ghost use Rattle.bracket_table.specs.Seen.{view};
 ghost use Rattle.bracket_table.specs.Views.{fresh};
 ghost use Rattle.table.specs.Printed.{printed_table};
-ghost use Rattle.table.specs.Seen.{completed, line_in, lines_in};
+ghost use Rattle.table.specs.Seen.{line_in, lines_in};
 
 use bracket_table::Table;
+use grown_table::grow_all;
 use input_text::Numbers;
 use std::alloc::{AllocError, Global};
 use table_text::line;
@@ -22,6 +23,7 @@ const LONGEST: usize = 74;
 const HEADER: usize = 32;
 
 /// The header and the line of every entry, for a table that was just opened.
+#[tactic(auto, using(grown_table::proofs::Rooms::all_entries))]
 pub(crate) fn table_lines(
     heap: Global,
     numbers: Numbers,
@@ -35,15 +37,6 @@ pub(crate) fn table_lines(
     push_header(&mut lines, numbers, table.entries().len())?;
     push_entries(&mut lines, table)?;
     Ok(lines)
-}
-
-/// Grows an empty table until no word is missing.
-fn grow_all(table: &mut Table)
-    requires empty { (view table.old).entries ≡ [] }
-    requires room { 1496 ≤ (view table.old).room }
-    ensures { view table.new ≡ completed (view table.old) }
-{
-    while table.grow().is_ok() {}
 }
 
 /// Puts the header of a table behind other lines.
