@@ -6,7 +6,7 @@ use Rattle.std.specs.List.{AllByRecursion, list_any}
 use Rattle.std.proofs.ByRecursion.{All-weaker, All-map}
 use Rattle.std.proofs.lemmas.Bool.{cases_Bool, cases_lt, both_ways, false≢true, false_from_ne_true, leb-true, le-leb, lt-ltb, le-ltb}
 use Rattle.std.proofs.lemmas.Bool.Decides.{Decides-and, Decides-or, Decides-not, Decides-like, not_from_Decides}
-use Rattle.std.proofs.lemmas.List.{take-map, drop-map}
+use Rattle.std.proofs.lemmas.List.{take-map, drop-map, take_all, drop_all}
 use Rattle.faults.specs.Outcome.Outcome.{answered}
 use Rattle.letter_order.specs.Orders.{by_value}
 use Rattle.lyndon.specs.declared.entry.Entry.{Entry}
@@ -16,7 +16,7 @@ use Rattle.lyndon.specs.Listing.{OfShape, In, Rising, keys}
 use Rattle.lyndon.specs.Entries.{listing, word, words}
 use Rattle.lyndon.proofs.Codes.{by_value_total, length-spelled}
 use Rattle.lyndon.proofs.Dictionary.{dictionary_total}
-use Rattle.lyndon.proofs.Entries.{words_listed, words_rising, word_in}
+use Rattle.lyndon.proofs.Entries.{length-listing, words_listed, words_rising, word_in}
 use Rattle.lyndon.proofs.Keys.{rest_each}
 use Rattle.lyndon.proofs.Missing.{not_twice}
 use Rattle.lyndon.proofs.Rises.{in_all, in_either, in_map, in_right}
@@ -109,6 +109,12 @@ module _ (k n : ℕ) (some : 1 ≤ k) (es : List Entry) (listed : es ≡ take (l
         let w = spell x in
         let j = in_map spell x xs i in
         sym ((lacking m (words k es) (words k (listing k n))).1 (w, subst (In w) (sym parted) (in_right w (words k es) (map spell xs) j), (rw length-spelled l, not_twice (words k es) (map spell xs) up w j)))
+
+-- where all entries of the listing are there, none is
+pub none_lacking : (k n m : ℕ) → 1 ≤ k → lacks k n m (listing k n) ≡ false
+none_lacking k n m some =
+    let es : List Entry = listing k n in
+    sym (all_long k n some es (sym (take_all (length es) es (omega arith))) [] (drop_all (length es) (keys k n) (omega (arith, length-listing k n some))) m tt)
 
 -- ---- of a table
 

@@ -3,6 +3,6 @@ mod Searching
 pub mod Growing
 mod Finding
 mod Same
-mod Shapes
+pub mod Shapes
 pub mod Named
 pub mod Lacking

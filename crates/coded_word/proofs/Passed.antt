@@ -1,5 +1,5 @@
 -- What the checks of a word let pass.
-use Rattle.std.proofs.Common.{◌≡◌, ℕ, suc, ◌<◌, ◌≤◌, cond, ltb, ◌⊎◌, List, [], ◌∷◌, length, ap, inl, inr, arith}
+use Rattle.std.proofs.Common.{◌≡◌, ℕ, suc, ◌<◌, ◌≤◌, cond, ltb, ◌⊎◌, List, [], ◌∷◌, length, refl, ap, inl, inr, arith}
 use Rattle.std.proofs.lemmas.Bool.{cases_lt, ltb-false, lt-ltb, le-ltb}
 use Rattle.faults.specs.declared.Layer.TheVariants as layer
 use Rattle.faults.specs.Faults.{found}
@@ -20,3 +20,11 @@ all_below k (x ∷ w) h = go (cases_lt x k) (all_below k w)
 pub letters_below : (k : ℕ) (w : List ℕ) → answered tt ≡ letters_checked k w → Over k w
 letters_below k w told =
     all_below k w (ltb-false (foreign k w) (length w) (answered_by (ltb (foreign k w) (length w)) (found 13 layer.Word 0 (foreign k w)) tt tt told).0)
+
+-- and then the letters pass
+pub below_passes : (k : ℕ) (w : List ℕ) → Over k w → letters_checked k w ≡ answered tt
+below_passes k w h = rw (none_foreign w h, le-ltb (length w) (length w) (omega arith))
+  where
+    none_foreign : (u : List ℕ) → Over k u → foreign k u ≡ length u
+    none_foreign [] o = refl
+    none_foreign (x ∷ u) o = rw (lt-ltb x k o.0) (ap suc (none_foreign u o.1))

@@ -1,5 +1,5 @@
 -- What is printed.
-use Rattle.std.proofs.Common.{◌≡◌, ℕ, List, take, Ok, Err, Result, IfOk, MatchResult, sym, ◌∙◌, subst}
+use Rattle.std.proofs.Common.{◌≡◌, ℕ, List, take, Ok, Err, Result, IfOk, MatchResult, sym, refl, ◌∙◌, subst}
 use Rattle.std.specs.declared.alloc.AllocError.{AllocError}
 use Rattle.std.proofs.lemmas.Result.{IfOk-weaker}
 use Rattle.faults.specs.Outcome.{Outcome}
@@ -29,12 +29,12 @@ unfolding FrontDecides
 front_prints P input printed p = subst (λ o. OutcomePrints P o printed) (front_decides input) p
 
 -- where one thing is printed for each answer, one is printed
-pub one_prints : {X : Type 0} (P : X → List ℕ → Type 0) → ((x : X) (one other : List ℕ) → P x one → P x other → one ≡ other) → (o : Outcome X) (one other : List ℕ) → OutcomePrints P o one → OutcomePrints P o other → one ≡ other
-one_prints P only (answered x) one other p q = only x one other p q
-one_prints P only (refused f) one other p q = p ∙ sym q
+pub one_prints : {X : Type 0} (P : X → List ℕ → Type 0) (o : Outcome X) → ((x : X) → o ≡ answered x → (one other : List ℕ) → P x one → P x other → one ≡ other) → (one other : List ℕ) → OutcomePrints P o one → OutcomePrints P o other → one ≡ other
+one_prints P (answered x) only one other p q = only x refl one other p q
+one_prints P (refused f) only one other p q = p ∙ sym q
 
 pub determined : (P : List ℕ → List ℕ → Type 0) → ((line one other : List ℕ) → P line one → P line other → one ≡ other) → Determined P
 determined P only = record {
   front = front_prints P;
-  once = λ input one other. one_prints P only (first_line input) one other;
+  once = λ input one other. one_prints P (first_line input) (λ line _. only line) one other;
 }

@@ -21,7 +21,7 @@ turned_plus true false z = omega (arith, ints)
 turned_plus false true z = refl
 turned_plus false false z = refl
 
-turned_zero : (b : Bool) → turned_ℤ b (pos 0) ≡ pos 0
+pub turned_zero : (b : Bool) → turned_ℤ b (pos 0) ≡ pos 0
 turned_zero true = refl
 turned_zero false = refl
 

@@ -1,5 +1,5 @@
 -- The terms of P of a word, from those of its parts.
-use Rattle.std.proofs.Common.{◌≡◌, ℕ, suc, ◌+◌, ◌-◌, ◌*◌, ◌/◌, ◌%◌, ◌^◌, ◌<◌, ◌≤◌, Bool, true, false, List, [], ◌∷◌, ◌++◌, length, pos, ◌+ℤ◌, ◌*ℤ◌, sym, ap, ap₂, ◌∙◌, subst, inl, inr, arith, length-append, pow-add, mod-lt, mul-le-mul_left, mul-le-mul_right, mul_comm}
+use Rattle.std.proofs.Common.{◌≡◌, ℕ, suc, ◌+◌, ◌-◌, ◌*◌, ◌/◌, ◌%◌, ◌^◌, ◌<◌, ◌≤◌, Bool, true, false, List, [], ◌∷◌, ◌++◌, length, pos, ◌+ℤ◌, ◌*ℤ◌, refl, sym, ap, ap₂, ◌∙◌, subst, inl, inr, arith, length-append, pow-add, mod-lt, mul-le-mul_left, mul-le-mul_right, mul_comm}
 use native.Mathlib.Nat.{one-le-pow, pow-succ'}
 use Rattle.std.proofs.lemmas.Bool.{cases_eq}
 use Rattle.std.proofs.lemmas.Nat.{div-add-mod'}
@@ -15,7 +15,7 @@ use Rattle.lyndon.proofs.Codes.{length-spelled}
 use Rattle.sheet_laws.specs.declared.term.Term.{Term}
 use Rattle.sheet_laws.specs.Terms.{sign, weight, products, Below, SumsTo}
 use Rattle.sheet_laws.proofs.Places.{take-spelled, drop-spelled, front_below}
-use Rattle.sheet_laws.proofs.Terms.{turned_ℤ, weight_here, weight_other, weight-append, weight_products, length-products, below_products}
+use Rattle.sheet_laws.proofs.Terms.{turned_ℤ, turned_zero, weight_here, weight_other, weight-append, weight_products, length-products, below_products}
 
 pub first_whole : (w f r : List ℕ) → FirstCut w f r → w ≡ f ++ r
 first_whole w f r C = sym C.1.whole ∙ ap (λ v. f ++ v) (sym C.2)
@@ -28,25 +28,32 @@ split_size w l r C = sym (ap length C.1.whole ∙ length-append l r)
 
 -- ---- one word
 
-module _ (k : ℕ) (w : List ℕ) (short : length w < 2) (some : 0 < k) (over : Over k w) (t : Term) (e : t.code ≡ code k w) (s : t.negative ≡ false) where
-  single_at : (c : ℕ) → c < k ^ length w → weight (t ∷ []) c ≡ only w (spelled k (length w) c)
-  single_at c h =
+sign_turned : (b : Bool) → sign b +ℤ pos 0 ≡ turned_ℤ b (pos 1)
+sign_turned true = refl
+sign_turned false = refl
+
+-- a term stands for its word, or for the opposite of that
+module _ (k : ℕ) (w : List ℕ) (some : 0 < k) (over : Over k w) (t : Term) (e : t.code ≡ code k w) where
+  pub word_at : (c : ℕ) → c < k ^ length w → weight (t ∷ []) c ≡ turned_ℤ t.negative (only w (spelled k (length w) c))
+  word_at c h =
       elim (cases_eq t.code c) [
         | inl same ↦
             weight_here t [] c same
-            ∙ ap (λ b. sign b +ℤ pos 0) s
-            ∙ sym (only_itself w (spelled k (length w) c) (sym (ap (spelled k (length w)) (sym same ∙ e) ∙ spelled-code k w some over)))
+            ∙ sign_turned t.negative
+            ∙ ap (turned_ℤ t.negative) (sym (only_itself w (spelled k (length w) c) (sym (ap (spelled k (length w)) (sym same ∙ e) ∙ spelled-code k w some over))))
         | inr other ↦
             weight_other t [] c other
-            ∙ sym (only_other w (spelled k (length w) c) (λ u. other (e ∙ ap (code k) u ∙ code-spelled k (length w) c some h)))
+            ∙ sym (turned_zero t.negative)
+            ∙ ap (turned_ℤ t.negative) (sym (only_other w (spelled k (length w) c) (λ u. other (e ∙ ap (code k) u ∙ code-spelled k (length w) c some h))))
       ]
 
+module _ (k : ℕ) (w : List ℕ) (short : length w < 2) (some : 0 < k) (over : Over k w) (t : Term) (e : t.code ≡ code k w) (s : t.negative ≡ false) where
   pub single_sums : SumsTo k w (t ∷ [])
   single_sums =
       record {
         below = All-cons (λ t. t.code < k ^ length w) t [] (rw e (code_below k w over)) (All-nil (λ t. t.code < k ^ length w));
         few = one-le-pow (length w - 1) 2 (omega arith);
-        weights = λ c h. single_at c h ∙ ap (λ x. x (spelled k (length w) c)) (sym (P_short w short));
+        weights = λ c h. word_at k w some over t e c h ∙ ap (λ b. turned_ℤ b (only w (spelled k (length w) c))) s ∙ ap (λ x. x (spelled k (length w) c)) (sym (P_short w short));
       }
 
 -- ---- products

@@ -10,7 +10,7 @@ use Rattle.table.specs.Printed.LinePrints.{shape, malformed}
 
 one_shape : (k n : ℕ) (one other : List ℕ) → ShapePrints k n one → ShapePrints k n other → one ≡ other
 one_shape k n one other p q =
-    one_prints (λ _ lines. lines ≡ printed_table k n) (λ _ a b e f. e ∙ sym f) (shape_checked k n) one other p q
+    one_prints (λ _ lines. lines ≡ printed_table k n) (shape_checked k n) (λ _ _ a b e f. e ∙ sym f) one other p q
 
 pub one_line : (bs one other : List ℕ) → LinePrints bs one → LinePrints bs other → one ≡ other
 one_line bs one other (shape k n f p) (shape m j g q) =
