@@ -1,11 +1,12 @@
 -- What a find answers, over plain values.
-use Rattle.std.proofs.Common.{◌≡◌, ℕ, suc, ◌^◌, ◌<◌, ◌≤◌, Bool, true, false, cond, ◌&&◌, eqb, ◌⊎◌, List, [], ◌∷◌, length, take, Some, Option, Ordering, Less, Equal, Greater, sym, refl, ap, ◌∙◌, subst, inl, inr, add-one, arith}
+use Rattle.std.proofs.Common.{◌≡◌, ℕ, suc, ◌^◌, ◌<◌, ◌≤◌, Bool, true, false, cond, ◌&&◌, eqb, ◌⊎◌, List, [], ◌∷◌, length, take, Some, Option, Ordering, Less, Equal, Greater, sym, refl, ap, ◌∙◌, subst, inl, inr, add-one}
 use borrow.Author.Tests.{clash}
 use Rattle.std.specs.Ordering.{is_eq}
 use Rattle.std.specs.List.{AllByRecursion, position_from}
 use Rattle.std.proofs.lemmas.Bool.{cases_Bool, and_from, and_parts, eq-eqb, eqb-true, both_ways}
 use Rattle.faults.specs.Outcome.{Outcome, checked}
-use Rattle.faults.specs.Outcome.Outcome.{answered, refused}
+use Rattle.faults.specs.Outcome.Outcome.{answered}
+use Rattle.faults.proofs.Checks.{passed}
 use Rattle.coded_word.specs.declared.coded.Cursor.{Cursor}
 use Rattle.coded_word.specs.Codes.{read_outcome}
 use Rattle.coded_word.proofs.Passed.{letters_below}
@@ -64,13 +65,6 @@ module _ (k : ℕ) (some : 1 ≤ k) (w : List ℕ) (over : Over k w) where
   found_spot [] a i = refl
   found_spot (e ∷ es) a i = rw (same_word e a.0, add-one) (ap (cond (has (length w) (code k w) e) (Some i)) (found_spot es a.1 (suc i)))
 
--- what reading a word comes to, passed up
-module _ {X : Type 0} (y : X) where
-  pub passed_both : (a b : Outcome (Unit {0})) (x : X) → answered x ≡ checked a (checked b (answered y)) → (answered tt ≡ a) × (answered tt ≡ b) × (x ≡ y)
-  passed_both (answered u) (answered v) x e = (refl, refl, cc)
-  passed_both (answered u) (refused g) x e = absurd (let z : ◌≡◌ {A = ℕ} 0 1 = cc in omega arith)
-  passed_both (refused g) b x e = absurd (let z : ◌≡◌ {A = ℕ} 0 1 = cc in omega arith)
-
 module _ (s : Option Cursor) (x : Cursor) (is : s ≡ Some x) (es : List Entry) (room : ℕ) (w : List ℕ) where
   abbrev seen : View
   seen = record { shape = dimensions s; entries = es; room = room }
@@ -78,10 +72,13 @@ module _ (s : Option Cursor) (x : Cursor) (is : s ≡ Some x) (es : List Entry) 
   -- a search for the word of m letters with the code c
   pub find_answers : es ≡ take (length es) (entries_in s) → (m c : ℕ) → answered (m, c) ≡ read_outcome x.shape.k x.shape.n w → answered (spot es m c) ≡ find_outcome seen w
   find_answers listed m c told =
-      let p = passed_both (length w, code x.shape.k w) (length_checked x.shape.n (length w)) (letters_checked x.shape.k w) (m, c) told in
+      let word : Outcome (ℕ × ℕ) = answered (length w, code x.shape.k w) in
+      let p = passed (length_checked x.shape.n (length w)) (checked (letters_checked x.shape.k w) word) (m, c) told in
+      let q = passed (letters_checked x.shape.k w) word (m, c) p.1 in
+      let same : ◌≡◌ {A = ℕ × ℕ} (m, c) (length w, code x.shape.k w) = cc in
       let coded = subst (AllByRecursion (λ e. e.code < x.shape.k ^ e.length)) (sym (known s x is es listed)) (listing_coded x.shape.k x.shape.n x.shape.some (length es)) in
-      let at = found_spot x.shape.k x.shape.some w (letters_below x.shape.k w p.1) es coded 0 in
-      rw (is, ← p.0, ← p.1, ap (λ z. z.0) p.2, ap (λ z. z.1) p.2) (ap answered at)
+      let at = found_spot x.shape.k x.shape.some w (letters_below x.shape.k w q.0) es coded 0 in
+      rw (is, ← p.0, ← q.0, ap (λ z. z.0) same, ap (λ z. z.1) same) (ap answered at)
 
 pub table_finds : (t : Table) (x : Cursor) → t.next ≡ Some x → (w : List ℕ) (m c : ℕ) → answered (m, c) ≡ read_outcome x.shape.k x.shape.n w → answered (spot (items t.entries) m c) ≡ find_outcome (view t) w
 table_finds t x is w m c told = find_answers t.next x is (items t.entries) (length (places t.entries)) w t.listed m c told
