@@ -1,0 +1,5 @@
+mod Sizes
+mod Read
+mod Written
+mod Converted
+mod Reports
