@@ -93,7 +93,7 @@ module _ {A : Type 0} (ring : Operations A) (laws : Laws ring) (k m : ℕ) (some
 
   -- a list that keeps its places up to w, and those behind it
   all_kept : (w : ℕ) (s t : List A) → length t ≡ length s → ((p : ℕ) → p ≤ w → at ring t p ≡ at ring s p) → ((p : ℕ) → w < p → p < length s → at ring t p ≡ at ring s p) → t ≡ s
-  all_kept w s t n kept behind = ext_get_or ring.zero t s n (λ p h. elim (cases_lt w p) [ | inl b ↦ behind p b (omega arith) | inr b ↦ kept p b ])
+  all_kept w s t n kept behind = ext_get_or ring.zero t s n (λ p h. elim (cases_lt w p) [ inl b ↦ behind p b (omega arith) | inr b ↦ kept p b ])
 
   -- a step with zero changes nothing
   pub taken_none : (w : ℕ) (s : List A) → length s ≡ k ^ m → w < k ^ m → at ring s w ≡ ring.zero → taken_out ring k m w s ≡ s
