@@ -1,4 +1,5 @@
-//! From sheets to coordinates and back: what a caller knows from the contracts of `into` and `back` alone.
+//! From sheets to coordinates and back: what a caller knows from the contracts of `into` and `back`, and from the bounds
+//! that the type of a table gives its shape.
 ghost use Rattle.std.specs.Prelude.{◌≡◌, length};
 ghost use Rattle.bracket_table.specs.Seen.{view};
 ghost use Rattle.faults.specs.Outcome.{told};
