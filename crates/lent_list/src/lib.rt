@@ -2,7 +2,7 @@
 
 #![tactic(auto)]
 
-ghost use Rattle.std.specs.Prelude.{◌≡◌, ◌+◌, ◌<◌, ◌≤◌, [], ◌∷◌, ◌++◌, length, MatchResult, slice_set};
+ghost use Rattle.std.specs.Prelude.{◌≡◌, ◌+◌, ◌<◌, ◌≤◌, [], ◌∷◌, ◌++◌, length, MatchOption, MatchResult, slice_set};
 ghost use Rattle.std.specs.List.{slice_get};
 
 /// The memory is too short for what is to be put into it.
@@ -76,6 +76,18 @@ impl<'a, T: Copy> LentList<'a, T> {
         self.memory[self.count] = x;
         self.count += 1;
         Ok(())
+    }
+
+    /// Takes the last element, if there is one. Its place keeps what it holds.
+    pub fn pop(&mut self) -> Option<T>
+        ensures done { MatchOption result
+            ((items self.old ≡ []) × (self.new ≡ self.old))
+            (λ x. items self.old ≡ items self.new ++ x ∷ []) }
+        ensures places { places self.new ≡ places self.old }
+        ensures lender { SameMemory self.old self.new }
+    {
+        self.count = self.count.checked_sub(1)?;
+        Some(self.memory[self.count])
     }
 
     /// More elements, behind the others.
