@@ -10,22 +10,12 @@ use Rattle.std.proofs.lemmas.List.Sums.{prefix_len_passes, prefix_len_stops}
 use Rattle.lent_list.specs.Lent.{over}
 use Rattle.lent_list.proofs.Filling.{over_more}
 use Rattle.text.specs.Reading.{Begins}
-use Rattle.text.specs.Symbols.{symbol}
 use Rattle.text.specs.Digits.{Digit}
 use Rattle.text.proofs.Reading.{begins_at}
-use Rattle.input_text.specs.Letters.{letter, is_symbol}
+use Rattle.text.specs.Symbols.{symbol, letter, is_symbol}
+use Rattle.text.proofs.Letters.{letter-symbol, symbol_is, symbol_back}
 use Rattle.input_text.specs.Symbols.{NoSymbol}
 use Rattle.input_text.specs.Words.{IsWord}
-
-pub letter-symbol : (x : ℕ) → x < 16 → letter (symbol x) ≡ x
-letter-symbol x h = grind (arith, nat_tests)
-
-pub symbol_is : (x : ℕ) → x < 16 → is_symbol (symbol x) ≡ true
-symbol_is x h = grind (arith, nat_tests, letter-symbol x h)
-
--- a symbol is that of its letter
-pub symbol_back : (c : ℕ) → is_symbol c ≡ true → (letter c < 16) × (symbol (letter c) ≡ c)
-symbol_back c h = (grind (arith, nat_tests), grind (arith, nat_tests))
 
 pub digit_is : (c : ℕ) → Digit c → is_symbol c ≡ true
 digit_is c d = grind (arith, nat_tests, d)

@@ -1,5 +1,4 @@
 pub mod Shapes
 pub mod Parts
-pub mod Letters
 pub mod Symbols
 pub mod Words

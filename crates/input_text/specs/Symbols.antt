@@ -1,7 +1,7 @@
 -- Words as they stand in a line.
 use Rattle.std.specs.Prelude.{◌≡◌, ℕ, ◌<◌, false, List, map, length, take, drop, Some, None, Option}
 use Rattle.text.specs.Reading.{Begins}
-use Rattle.input_text.specs.Letters.{letter, is_symbol}
+use Rattle.text.specs.Symbols.{letter, is_symbol}
 use Rattle.input_text.specs.declared.symbols.Symbols.{Symbols}
 
 -- the letters of the word

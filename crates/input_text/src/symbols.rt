@@ -4,9 +4,9 @@ ghost use Rattle.std.specs.List.{AllPass, prefix_len};
 ghost use Rattle.faults.specs.Outcome.{told};
 ghost use Rattle.text.specs.Faults.{text_fault};
 ghost use Rattle.text.specs.Lines.{written, left};
-ghost use Rattle.input_text.specs.Letters.{letter, is_symbol};
+ghost use Rattle.text.specs.Symbols.{is_symbol};
 
-use text::TextFault;
+use text::{TextFault, is_symbol, letter_of};
 
 /// A word as it stands in a line: a symbol for each letter, 0 to 9 and a to f.
 // a part of the line, which may be long; its letters are written where they are wanted
@@ -14,26 +14,6 @@ use text::TextFault;
 pub struct Symbols<'a> {
     bytes: &'a [u8],
     ghost spelled: { AllPass is_symbol bytes.now },
-}
-
-/// Whether a byte is the symbol of a letter.
-// not by `is_ascii_hexdigit`: an upper case letter is none
-fn is_symbol(byte: u8) -> bool
-    ensures { result ≡ is_symbol byte }
-{
-    matches!(byte, b'0'..=b'9' | b'a'..=b'f')
-}
-
-/// The letter of a symbol.
-fn letter_of(symbol: u8) -> u8
-    requires { is_symbol symbol ≡ true }
-    ensures { result ≡ letter symbol }
-{
-    if symbol <= b'9' {
-        symbol - b'0'
-    } else {
-        symbol - b'a' + 10
-    }
 }
 
 /// How many symbols a text begins with.

@@ -2,3 +2,4 @@ pub mod FirstLine
 pub mod Putting
 pub mod Reading
 pub mod Written
+pub mod Letters

@@ -1,6 +1,14 @@
--- The symbols of letters.
-use Rattle.std.specs.Prelude.{ℕ, ◌+◌, cond, nat_lt}
+-- The symbols of letters: 0 to 9, a to f.
+use Rattle.std.specs.Prelude.{ℕ, ◌+◌, ◌-◌, Bool, cond, ◌&&◌, ◌==◌, nat_lt}
 
--- the symbol of a letter: 0 to 9, a to f
+-- the symbol of a letter
 abbrev pub symbol : ℕ → ℕ
 symbol x = cond (nat_lt x 10) (48 + x) (87 + x)
+
+-- the letter of a symbol
+abbrev pub letter : ℕ → ℕ
+letter c = cond (nat_lt c 58) (c - 48) (c - 87)
+
+-- whether a byte is the symbol of a letter below 16
+abbrev pub is_symbol : ℕ → Bool
+is_symbol c = nat_lt (letter c) 16 && symbol (letter c) == c

@@ -15,6 +15,8 @@ pub enum TextFault {
     LongText,
     /// No well-formed text can continue at this byte.
     Malformed(usize),
+    /// No entry has this text.
+    UnknownText,
     /// A fault of the word layer.
     Word(WordFault),
 }
@@ -30,6 +32,7 @@ impl From<TextFault> for Fault {
             TextFault::ShortBuffer => Fault::found(7, Layer::Text, 0, 0),
             TextFault::LongText => Fault::found(14, Layer::Text, 0, 0),
             TextFault::Malformed(place) => Fault::found(15, Layer::Text, place, 0),
+            TextFault::UnknownText => Fault::found(16, Layer::Text, 0, 0),
             TextFault::Word(lower) => Fault::from(lower).passed_by(Layer::Text),
         }
     }

@@ -1,6 +1,6 @@
 use Rattle.std.proofs.Common.{◌≡◌, map, take}
 use Rattle.lent_list.specs.Lent.{over}
-use Rattle.input_text.specs.Letters.{letter}
+use Rattle.text.specs.Symbols.{letter}
 use Rattle.input_text.proofs.symbols.Symbols.write_letters.Given as goal
 
 abbrev pub invariant-loop-place : goal.invariant-loop-place
