@@ -1,0 +1,3 @@
+pub mod Parts
+pub mod Outcomes
+pub mod Turns

@@ -1,0 +1,4 @@
+pub mod Brackets
+pub mod Tokens
+pub mod Words
+pub mod States

@@ -1,0 +1,6 @@
+-- The letters of a word that was read.
+use Rattle.std.specs.Prelude.{ℕ, List, take}
+use Rattle.bracket_text.specs.declared.word.Word.{Word}
+
+abbrev pub letters_in : Word → List ℕ
+letters_in w = take w.count w.places
