@@ -1,7 +1,7 @@
 #!/usr/bin/env python3
-"""What the programs print, computed another way: `reference.py PROGRAM < INPUT`.
+"""What the programs print, and how bracket texts are read, computed another way: `reference.py PROGRAM < INPUT`.
 
-It shares nothing with the library: texts are matched by regular expressions; factors are read off the order of a
+It shares nothing with the library: texts are matched by regular expressions, and those of brackets rewritten by one; factors are read off the order of a
 word's suffixes, where the library goes over the word once by Duval's algorithm; words of a table are tuples of
 letters, tested against their rotations, where the library counts through their codes; and polynomials are
 dictionaries of whole numbers, multiplied out word by word, where the library has sheets that are indexed by codes.
@@ -116,6 +116,39 @@ def table(data):
         spelled = "".join(SYMBOLS[letter] for letter in word)
         lines.append(" ".join([str(number), spelled, *named, text(word)]) + "\n")
     return "".join(lines)
+
+
+PAIR = re.compile(r"\[[0-9a-f],[0-9a-f]\]")
+# the front of a text, where each bracket that is whole stands as a symbol
+FRONT = re.compile(r"(?:\[(?:[0-9a-f],)?)*[0-9a-f]?")
+
+
+def reduced(text):
+    """A text in which brackets of two symbols are made symbols until there are none."""
+    while PAIR.search(text):
+        text = PAIR.sub("0", text)
+    return text
+
+
+@functools.cache
+def numbers_of_texts(k, n):
+    return {text(word): number for number, word in enumerate(lyndon_words(k, n))}
+
+
+def read(k, n, data):
+    """The number of the entry with a text among all of a shape, or fault number, byte place and letter position."""
+    if len(data) > 45:
+        return 14, 0, 0
+    line = data.decode("latin-1")
+    for place in range(len(line)):
+        if not FRONT.fullmatch(reduced(line[: place + 1])):
+            return 15, place, 0
+    if not re.fullmatch("[0-9a-f]", reduced(line)):
+        return 15, len(line), 0
+    for position, symbol in enumerate(re.sub(r"[\[\],]", "", line)):
+        if int(symbol, 16) >= k:
+            return 13, 0, position
+    return numbers_of_texts(k, n).get(line, (16, 0, 0))
 
 
 def product(x, y):

@@ -2,3 +2,4 @@ pub mod Texts
 pub mod Spelled
 pub mod Listed
 pub mod Lining
+pub mod ReadTexts

@@ -12,7 +12,8 @@ use Rattle.lyndon.proofs.Codes.{length-spelled}
 use Rattle.lyndon.proofs.Entries.{listing_parts}
 use Rattle.bracket_table.proofs.Named.{entry_coded, entry_of_shape, entry_some, entry_short}
 use Rattle.text.specs.Symbols.{symbol}
-use Rattle.table_text.specs.Lines.{pair, text_of}
+use Rattle.bracket_text.specs.Brackets.{pair}
+use Rattle.table_text.specs.Lines.{text_of}
 use Rattle.table_text.specs.Listed.{entry_at, word_at}
 use Rattle.table_text.specs.declared.entry_line.Listed.{Listed}
 use Rattle.table_text.proofs.Texts.{text_letter, text_split, texts}

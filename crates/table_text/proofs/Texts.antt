@@ -8,13 +8,14 @@ use Rattle.lyndon.specs.Entries.{cut}
 use Rattle.lyndon.proofs.Codes.{by_value_total, cut_splits, cut_within}
 use Rattle.lyndon.proofs.Theorems.{split_once}
 use Rattle.text.specs.Symbols.{symbol}
-use Rattle.table_text.specs.Lines.{pair, text, text_of, Texts}
+use Rattle.bracket_text.specs.Brackets.{pair}
+use Rattle.table_text.specs.Lines.{text, text_of, Texts}
 
-single : (m : ℕ) (w : List ℕ) → length w < 2 → text (suc m) w ≡ map symbol w
+pub single : (m : ℕ) (w : List ℕ) → length w < 2 → text (suc m) w ≡ map symbol w
 unfolding text
 single m w h = rw (lt-ltb (length w) 2 h)
 
-double : (m : ℕ) (w : List ℕ) → 2 ≤ length w → text (suc m) w ≡ pair (text m (take (cut w) w)) (text m (drop (cut w) w))
+pub double : (m : ℕ) (w : List ℕ) → 2 ≤ length w → text (suc m) w ≡ pair (text m (take (cut w) w)) (text m (drop (cut w) w))
 unfolding text
 double m w h = rw (le-ltb (length w) 2 h)
 

@@ -1,5 +1,5 @@
 -- The text of a word, and the lines of an entry and of a coordinate.
--- 91 is [, 93 ], 44 the comma, 45 the minus sign, 32 the space, 10 the line feed.
+-- 45 is the minus sign, 32 the space, 10 the line feed.
 use Rattle.std.specs.Prelude.{◌≡◌, ℕ, zero, suc, ◌+◌, ◌*◌, ◌<◌, cond, List, [], ◌∷◌, ◌++◌, map, length, take, drop, Some, None, decimal, Option, ◌==◌, nat_lt}
 use Rattle.std.specs.List.{slice_get}
 use Rattle.faults.specs.declared.Layer.TheVariants as layer
@@ -10,12 +10,9 @@ use Rattle.lyndon.specs.Words.{Split}
 use Rattle.lyndon.specs.Entries.{cut, word}
 use Rattle.text.specs.Lines.{written, left}
 use Rattle.text.specs.Symbols.{symbol}
+use Rattle.bracket_text.specs.Brackets.{pair}
 use Rattle.bracket_table.specs.Calls.{when_open, with_entry}
 use Rattle.bracket_table.specs.Views.{Dimensions, View}
-
--- the text of a bracket, by the texts of its two parts
-abbrev pub pair : List ℕ → List ℕ → List ℕ
-pair l r = 91 ∷ (l ++ (44 ∷ (r ++ 93 ∷ [])))
 
 -- the text of a word of at most m letters: a letter's symbol, or the texts of the two parts of its split
 unfoldable pub text : ℕ → List ℕ → List ℕ

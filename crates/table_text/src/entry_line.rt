@@ -1,5 +1,5 @@
 //! The line of an entry.
-ghost use Rattle.std.specs.Prelude.{◌≡◌, ◌+◌, ◌<◌, [], ◌∷◌, ◌++◌, map, length, take, slice_index_or, MatchOption, MatchResult};
+ghost use Rattle.std.specs.Prelude.{◌≡◌, ◌+◌, ◌<◌, [], ◌∷◌, ◌++◌, map, length, take, slice_index_or, Decides, MatchOption, MatchResult};
 ghost use Rattle.faults.specs.Outcome.{told};
 ghost use Rattle.lent_list.specs.Lent.{items, places, SameMemory};
 ghost use Rattle.lyndon.specs.Entries.{listing, no_entry};
@@ -8,7 +8,8 @@ ghost use Rattle.text.specs.Faults.{text_fault};
 ghost use Rattle.text.specs.Lines.{written, left as left_over};
 ghost use Rattle.text.specs.Pieces.{bytes_of};
 ghost use Rattle.text.specs.Symbols.{symbol};
-ghost use Rattle.table_text.specs.Lines.{pair, text_of, part, fields, line_of_entry};
+ghost use Rattle.bracket_text.specs.Brackets.{pair};
+ghost use Rattle.table_text.specs.Lines.{text_of, part, fields, line_of_entry};
 
 use crate::symbols::{LETTERS, put_word, symbol_of};
 use coded_word::{CodedWord, Shape};
@@ -143,6 +144,17 @@ impl<'a> Listed<'a> {
                 line.push(b']')
             }
         }
+    }
+
+    /// Whether a text is that of its word.
+    #[tactic(auto, using(crate::proofs::Listed::few_letters, crate::proofs::Listed::text_size))]
+    pub(crate) fn has_text(self, text: &[u8]) -> bool
+        ensures { Decides result (text.now ≡ text_of (word_at self.entry)) }
+    {
+        let mut bytes = [0; BYTES];
+        let mut own = LentList::new(&mut bytes);
+        // there is room
+        self.put_text(&mut own).is_ok() && own.items() == text
     }
 
     /// Writes its line to the front of a buffer.

@@ -10,11 +10,15 @@ ghost use Rattle.table_text.specs.Lines.{line_outcome, line_left, Texts};
 
 mod coordinate_line;
 mod entry_line;
+mod reading;
 mod symbols;
+#[cfg(test)]
+mod tests;
 
 use bracket_table::{Table, TableFault};
 pub use coordinate_line::write_coordinate_line;
 use entry_line::Listed;
+pub use reading::read;
 
 /// Writes number, word, left, right and text of an entry to the front of a buffer, with a space between and a line
 /// feed behind. Answers how many bytes were written. A refused call leaves the buffer as it was.
