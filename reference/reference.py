@@ -1,7 +1,8 @@
 #!/usr/bin/env python3
-"""What the programs print, and how bracket texts are read, computed another way: `reference.py PROGRAM < INPUT`.
+"""What the programs print, computed another way: `reference.py PROGRAM < INPUT`; and how bracket texts are read.
 
-It shares nothing with the library: texts are matched by regular expressions, and those of brackets rewritten by one; factors are read off the order of a
+It shares nothing with the library: texts are matched by regular expressions, and brackets rewritten by one until
+nothing is left of them, where the library keeps a list of what it awaits; factors are read off the order of a
 word's suffixes, where the library goes over the word once by Duval's algorithm; words of a table are tuples of
 letters, tested against their rotations, where the library counts through their codes; and polynomials are
 dictionaries of whole numbers, multiplied out word by word, where the library has sheets that are indexed by codes.

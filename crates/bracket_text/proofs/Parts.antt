@@ -1,5 +1,5 @@
 -- The parts of bracket texts, and the bytes with which they begin.
-use Rattle.std.proofs.Common.{◌≡◌, ℕ, ◌<◌, true, false, ◌⊎◌, List, [], ◌∷◌, ◌++◌, map, length, Some, None, Option, sym, refl, ap, ◌∙◌, inl, inr, append_assoc, arith, length-append}
+use Rattle.std.proofs.Common.{◌+◌, ◌*◌, ◌≡◌, ℕ, ◌<◌, true, false, ◌⊎◌, List, [], ◌∷◌, ◌++◌, map, length, Some, None, Option, sym, refl, ap, ◌∙◌, inl, inr, append_assoc, arith, length-append}
 use Rattle.std.specs.Prelude.{◌≢◌}
 use Rattle.std.proofs.lemmas.Bool.{false≢true}
 use Rattle.text.specs.Reading.{Viable}
@@ -37,6 +37,14 @@ fill (part.Close ∷ ps) = let r = fill ps in (93 ∷ r.0, r.1, (r.0, refl, r.2)
 some_byte : (s u : List ℕ) → IsText s u → 0 < length s
 some_byte s u (one x h) = omega arith
 some_byte s u (two f g) = omega arith
+
+-- a byte for each letter, and three for each bracket
+pub size : (bs w : List ℕ) → IsText bs w → length bs + 3 ≡ 4 * length w
+size bs w (one x h) = refl
+size bs w (two {s = s} {t = t} {u = u} {v = v} f g) =
+    let a = size s u f in
+    let b = size t v g in
+    omega (arith, a, b, length-append s (44 ∷ (t ++ 93 ∷ [])), length-append t (93 ∷ []), length-append u v)
 
 -- and where one is awaited, nothing has ended
 pub not_empty : (q : Part) (ps : List Part) (w : List ℕ) → Fits (q ∷ ps) [] w → ⊥

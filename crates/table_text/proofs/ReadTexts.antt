@@ -101,7 +101,7 @@ module _ (k n : ℕ) (some : 1 ≤ k) (few : k ≤ 16) (short : n ≤ 12) (es : 
   at i = word k (get_or es i no_entry)
 
   module _ (i : ℕ) (here : i < length es) where
-    of_shape : OfShape k n (at i)
+    pub of_shape : OfShape k n (at i)
     of_shape = entry_of_shape k n some es first.listed i here
 
     entry_reads : BracketOutcome (entry_text k es i) (answered (at i))
@@ -117,7 +117,7 @@ module _ (k n : ℕ) (some : 1 ≤ k) (few : k ≤ 16) (short : n ≤ 12) (es : 
     length_passes = rw (ne_eqb (length (at i)) 0 (omega (arith, of_shape.lyndon.some)), le-ltb n (length (at i)) of_shape.short) refl
 
   -- a text that an entry has means its word
-  entry_word : (text w : List ℕ) (i : ℕ) → i < length es → text ≡ entry_text k es i → BracketOutcome text (answered w) → at i ≡ w
+  pub entry_word : (text w : List ℕ) (i : ℕ) → i < length es → text ≡ entry_text k es i → BracketOutcome text (answered w) → at i ≡ w
   entry_word text w i here e h =
       let same : answered (at i) ≡ answered w = one_of (entry_text k es i) (answered (at i)) (answered w) (entry_reads i here) (rw e at h) in
       cc

@@ -1,2 +1,3 @@
 mod Grows
 mod RoundTrips
+mod Refusals

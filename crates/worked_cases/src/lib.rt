@@ -23,13 +23,15 @@ pub enum Case {
     Entry(u8, u8, usize, &'static [u8], u16, u16),
     /// A word has this text.
     Text(&'static [u8], &'static [u8]),
+    /// In the table of all entries of k and n, reading this text is refused with this fault, at this byte place.
+    Unread(u8, u8, &'static [u8], u8, usize),
     /// Over so many letters, P of a word has these coefficients, each at the code of its word.
     Polynomial(u8, &'static [u8], &'static [i16]),
     /// Over so many letters, a word has these coordinates, each at the code of its word.
     Coordinates(u8, &'static [u8], &'static [i16]),
 }
 
-const CASES: [Case; 11] = [
+const CASES: [Case; 13] = [
     Case::Factors(&[0, 0, 1, 0, 0, 1], &[&[0, 0, 1], &[0, 0, 1]]),
     Case::Factors(&[1, 0], &[&[1], &[0]]),
     Case::Factors(&[0, 1, 0, 1], &[&[0, 1], &[0, 1]]),
@@ -43,13 +45,15 @@ const CASES: [Case; 11] = [
     Case::Entry(2, 5, 10, &[0, 0, 1, 0, 1], 3, 2),
     Case::Entry(2, 5, 12, &[0, 1, 0, 1, 1], 2, 4),
     Case::Text(&[0, 0, 1, 1, 0, 1], b"[[0,[[0,1],1]],[0,1]]"),
+    Case::Unread(2, 5, b"[0,[0,1]", 15, 8),
+    Case::Unread(2, 5, b"[1,0]", 16, 0),
     Case::Polynomial(2, &[0, 0, 1], &[0, 1, -2, 0, 1, 0, 0, 0]),
     Case::Coordinates(2, &[0, 0, 1], &[0, 1, 2, 0, 1, 0, 0, 0]),
 ];
 
 /// All of them.
-#[tactic(auto, unfolding(lyndon::specs::Listing::lyndon, lyndon::specs::Listing::codes, lyndon::specs::Listing::lengths, lyndon::specs::Listing::keys, lyndon::specs::Entries::listing, table_text::specs::Lines::text, polynomial::specs::Polynomials::poly))]
-pub fn cases() -> [Case; 11]
+#[tactic(auto, using(crate::proofs::Refusals::unclosed, crate::proofs::Refusals::unlisted), unfolding(lyndon::specs::Listing::lyndon, lyndon::specs::Listing::codes, lyndon::specs::Listing::lengths, lyndon::specs::Listing::keys, lyndon::specs::Entries::listing, table_text::specs::Lines::text, polynomial::specs::Polynomials::poly))]
+pub fn cases() -> [Case; 13]
     ensures { AllHold result }
 {
     CASES
