@@ -1,34 +1,28 @@
--- Reading the text of an entry, over plain values.
-use Rattle.std.proofs.Common.{◌≡◌, ℕ, zero, suc, ◌+◌, ◌-◌, ◌<◌, ◌≤◌, true, false, ◌⊎◌, List, [], ◌∷◌, map, length, get_or, take, drop, Some, None, Ok, Err, Option, Result, Ordering, sym, refl, ap, ◌∙◌, subst, inl, inr, arith, take-append-drop}
+-- What reading the text of an entry comes to, over plain values.
+use Rattle.std.proofs.Common.{◌≡◌, ℕ, ◌<◌, ◌≤◌, List, [], length, get_or, Some, None, Ok, Err, Option, Result, sym, refl, ap, ◌∙◌, subst, inl, inr, arith}
 use native.Mathlib.Nat.{sub-zero}
 use Rattle.std.specs.Prelude.{◌≢◌}
-use Rattle.std.specs.Ordering.{is_eq}
-use Rattle.std.specs.Cmp.{Equal-is}
 use Rattle.std.proofs.ByRecursion.{All-weaker}
-use Rattle.std.proofs.lemmas.Bool.{cases_Bool, cases_lt, cases_order, both_ways, ne_eqb, le-ltb}
-use Rattle.std.proofs.lemmas.List.{length-drop, length-map, length-take-le, get_or-map}
+use Rattle.std.proofs.lemmas.Bool.{cases_order, ne_eqb, le-ltb}
+use Rattle.std.proofs.lemmas.List.{length-map, get_or-map}
 use Rattle.faults.specs.declared.Fault.{Fault}
 use Rattle.faults.specs.declared.Layer.TheVariants as layer
 use Rattle.faults.specs.Faults.{found, passed}
 use Rattle.faults.specs.Outcome.{Outcome, told, checked, passed_up}
 use Rattle.faults.specs.Outcome.Outcome.{answered, refused}
 use Rattle.faults.proofs.Checks.{passed as passes}
-use Rattle.letter_order.specs.Orders.{by_value}
 use Rattle.lyndon.specs.declared.entry.Entry.{Entry}
-use Rattle.lyndon.specs.Words.{dictionary}
 use Rattle.lyndon.specs.Codes.{Over, Listed}
 use Rattle.lyndon.specs.Listing.{OfShape}
 use Rattle.lyndon.specs.Theorems.{FirstEntries}
-use Rattle.lyndon.specs.Entries.{cut, word, words, listing, no_entry}
-use Rattle.lyndon.proofs.Codes.{by_value_total, over-take, over-drop, cut_within}
-use Rattle.lyndon.proofs.Dictionary.{dictionary_total, irrefl}
+use Rattle.lyndon.specs.Entries.{word, words, no_entry}
+use Rattle.lyndon.proofs.Codes.{by_value_total}
+use Rattle.lyndon.proofs.Dictionary.{irrefl}
 use Rattle.lyndon.proofs.Rises.{rising_at}
 use Rattle.coded_word.proofs.Passed.{below_passes}
 use Rattle.coded_word.specs.declared.shape.Shape.{Shape}
 use Rattle.word.specs.Faults.{letters_checked, length_checked}
-use Rattle.text.specs.Symbols.{symbol}
-use Rattle.bracket_text.specs.Brackets.{pair, IsText, BracketOutcome}
-use Rattle.bracket_text.specs.Brackets.IsText.{letter, bracket}
+use Rattle.bracket_text.specs.Brackets.{BracketOutcome}
 use Rattle.bracket_text.specs.Brackets.BracketOutcome.{read}
 use Rattle.bracket_text.proofs.Outcomes.{one_of}
 use Rattle.bracket_table.specs.Calls.{found_from, find_outcome}
@@ -40,57 +34,9 @@ use Rattle.bracket_table.proofs.Named.{entry_of_shape}
 use Rattle.table_text.specs.Lines.{text, text_of}
 use Rattle.table_text.specs.Reads.{entry_text, TextOutcome, ReadOutcome, ReadBack, ReadsBack}
 use Rattle.table_text.specs.Reads.TextOutcome.{no_text, foreign, unknown, known}
-use Rattle.table_text.proofs.Texts.{single, double, texts}
-
--- the text of a word is well formed, and means it
-one_letter : (w : List ℕ) → 0 < length w → length w < 2 → Over 16 w → IsText (map symbol w) w
-one_letter [] some h o = absurd (omega arith)
-one_letter (x ∷ []) some h o = letter x o.0
-one_letter (x ∷ y ∷ w) some h o = absurd (omega arith)
-
-formed : (m : ℕ) (w : List ℕ) → 0 < length w → length w ≤ m → Over 16 w → IsText (text m w) w
-formed zero w some h o = absurd (omega arith)
-formed (suc m) w some h o = go (cases_lt (length w) 2) (formed m)
-  where
-    go : (length w < 2) ⊎ (2 ≤ length w) → ((v : List ℕ) → 0 < length v → length v ≤ m → Over 16 v → IsText (text m v) v) → IsText (text (suc m) w) w
-    go (inl l) more = rw (single m w l) (one_letter w some l o)
-    go (inr l) more =
-        let at = cut_within w l in
-        let a : length (take (cut w) w) ≡ cut w = length-take-le (cut w) w (omega (arith, at.1)) in
-        let b : length (drop (cut w) w) ≡ length w - cut w = length-drop (cut w) w in
-        let p = more (take (cut w) w) (omega (arith, at.0)) (omega (arith, at.1)) (over-take 16 (cut w) w o) in
-        let q = more (drop (cut w) w) (omega (arith, at.1)) (omega (arith, at.0)) (over-drop 16 (cut w) w o) in
-        let whole : IsText (pair (text m (take (cut w) w)) (text m (drop (cut w) w))) w = rw take-append-drop at (bracket p q) in
-        rw (double m w l) whole
-
--- the number that a search for a word finds
-abbrev Found : ℕ → List (List ℕ) → List ℕ → Option ℕ → Type 0
-Found j vs w None = (i : ℕ) → i < length vs → get_or vs i [] ≢ w
-Found j vs w (Some i) = (j ≤ i) × (i < j + length vs) × (get_or vs (i - j) [] ≡ w)
-
-finds : (j : ℕ) (vs : List (List ℕ)) (w : List ℕ) → Found j vs w (found_from j vs w)
-finds j [] w = λ i h e. omega arith
-finds j (v ∷ vs) w = go (cases_Bool (is_eq r)) (found_from (suc j) vs w) refl (finds (suc j) vs w)
-  where
-    r : Ordering
-    r = dictionary by_value v w
-
-    hit : is_eq r ≡ true → v ≡ w
-    hit t = ((dictionary_total by_value_total).same v w).0 ((Equal-is r).0 t)
-
-    miss : is_eq r ≡ false → v ≢ w
-    miss t e = both_ways (is_eq r) t ((Equal-is r).1 (((dictionary_total by_value_total).same v w).1 e))
-
-    go : (is_eq r ≡ true) ⊎ (is_eq r ≡ false) → (o : Option ℕ) → found_from (suc j) vs w ≡ o → Found (suc j) vs w o → Found j (v ∷ vs) w (found_from j (v ∷ vs) w)
-    go (inl t) o e more = rw t (omega arith, omega arith, let n : j - j ≡ 0 = omega arith in rw n (hit t))
-    go (inr t) None e more = rw (t, e) (next more)
-      where
-        next : ((i : ℕ) → i < length vs → get_or vs i [] ≢ w) → (i : ℕ) → i < length (v ∷ vs) → get_or (v ∷ vs) i [] ≢ w
-        next f zero h = miss t
-        next f (suc i) h = f i (omega arith)
-    go (inr t) (Some i) e more =
-        let n : i - j ≡ suc (i - suc j) = omega (arith, more.0) in
-        rw (t, e) (omega (arith, more.0), omega (arith, more.1), rw n more.2)
+use Rattle.table_text.proofs.Found.{Found, finds}
+use Rattle.table_text.proofs.Lining.{rows_listed}
+use Rattle.table_text.proofs.Texts.{formed, texts}
 
 clash : {X Y : Type 0} (x : X) (f : Fault) → answered x ≡ refused f → Y
 clash x f e = absurd (cc)
@@ -224,7 +170,6 @@ module _ (k n : ℕ) (some : 1 ≤ k) (few : k ≤ 16) (short : n ≤ 12) (es : 
     -- and so no entry has a text that the entry found has not
     none_found : (r : Result (Option ℕ) TableFault) → told (λ i. i) table_fault r ≡ searched → ((i : ℕ) → r ≡ Ok (Some i) → text ≢ entry_text k es i) → (j : ℕ) → j < length es → text ≢ entry_text k es j
     none_found r found own j here e =
-        let f = found_there j here e in
         go r found own
       where
         f : (i : ℕ) × (searched ≡ answered (Some i)) × (at i ≡ w)
@@ -249,9 +194,6 @@ closed_comes v text is = rw is refl
 module _ (v : View) (x : Shape) (is : v.shape ≡ Some (record { k = x.k; n = x.n })) (sound : Sound v) where
   first_of : FirstEntries x.k x.n v.entries
   first_of = sound (record { k = x.k; n = x.n }) is
-
-  pub rows_first : (rows : List Entry) → rows ≡ v.entries → rows ≡ take (length rows) (listing x.k x.n)
-  rows_first rows are = rw are first_of.listed
 
   pub open_reads : ReadsBack v
   unfolding ReadsBack
@@ -294,4 +236,4 @@ module _ (v : View) (x : Shape) (is : v.shape ≡ Some (record { k = x.k; n = x.
       pub other_comes : (i : ℕ) → answered (Some i) ≡ find_outcome v letters → text ≢ entry_text x.k v.entries i → ReadOutcome v text (refused (passed layer.Table (found 16 layer.Text 0 0)))
       other_comes i e own = unknown_comes (Ok (Some i)) e (λ j q. let same : i ≡ j = cc in rw (← same) own)
 
-pub ruleset reads = (closed_reads, closed_comes, rows_first, open_reads, no_text_comes, known_comes, foreign_comes, at_entry, none_comes, long_comes, other_comes)
+pub ruleset reads = (closed_reads, closed_comes, rows_listed, open_reads, no_text_comes, known_comes, foreign_comes, at_entry, none_comes, long_comes, other_comes)

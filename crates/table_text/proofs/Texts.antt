@@ -1,21 +1,23 @@
 -- Texts of words.
-use Rattle.std.proofs.Common.{◌≡◌, ℕ, zero, suc, ◌+◌, ◌-◌, ◌*◌, ◌<◌, ◌≤◌, ◌⊎◌, List, [], ◌∷◌, ◌++◌, map, length, take, drop, sym, refl, ap, ◌∙◌, inl, inr, arith, length-append}
+use Rattle.std.proofs.Common.{◌≡◌, ℕ, zero, suc, ◌+◌, ◌-◌, ◌*◌, ◌<◌, ◌≤◌, ◌⊎◌, List, [], ◌∷◌, ◌++◌, map, length, take, drop, sym, refl, ap, ◌∙◌, inl, inr, arith, length-append, take-append-drop}
 use Rattle.std.proofs.lemmas.List.{length-drop, length-map, length-take-le}
 use Rattle.std.proofs.lemmas.Bool.{cases_lt, lt-ltb, le-ltb}
 use Rattle.letter_order.specs.Orders.{by_value}
 use Rattle.lyndon.specs.Words.{Split}
 use Rattle.lyndon.specs.Entries.{cut}
-use Rattle.lyndon.proofs.Codes.{by_value_total, cut_splits, cut_within}
+use Rattle.lyndon.specs.Codes.{Over}
+use Rattle.lyndon.proofs.Codes.{by_value_total, cut_splits, cut_within, over-take, over-drop}
 use Rattle.lyndon.proofs.Theorems.{split_once}
 use Rattle.text.specs.Symbols.{symbol}
-use Rattle.bracket_text.specs.Brackets.{pair}
+use Rattle.bracket_text.specs.Brackets.{pair, IsText}
+use Rattle.bracket_text.specs.Brackets.IsText.{letter, bracket}
 use Rattle.table_text.specs.Lines.{text, text_of, Texts}
 
-pub single : (m : ℕ) (w : List ℕ) → length w < 2 → text (suc m) w ≡ map symbol w
+single : (m : ℕ) (w : List ℕ) → length w < 2 → text (suc m) w ≡ map symbol w
 unfolding text
 single m w h = rw (lt-ltb (length w) 2 h)
 
-pub double : (m : ℕ) (w : List ℕ) → 2 ≤ length w → text (suc m) w ≡ pair (text m (take (cut w) w)) (text m (drop (cut w) w))
+double : (m : ℕ) (w : List ℕ) → 2 ≤ length w → text (suc m) w ≡ pair (text m (take (cut w) w)) (text m (drop (cut w) w))
 unfolding text
 double m w h = rw (le-ltb (length w) 2 h)
 
@@ -67,6 +69,27 @@ text_size (suc m) w some h = go (cases_lt (length w) 2) (text_size m)
         let q = more (drop (cut w) w) (omega (arith, at.1)) (omega (arith, at.0)) in
         let r = text m (drop (cut w) w) in
         rw (double m w l) (omega (arith, at.1, length-append (text m (take (cut w) w)) (44 ∷ (r ++ 93 ∷ [])), length-append r (93 ∷ [])))
+
+-- the text of a word is well formed, and means it
+one_letter : (w : List ℕ) → 0 < length w → length w < 2 → Over 16 w → IsText (map symbol w) w
+one_letter [] some h o = absurd (omega arith)
+one_letter (x ∷ []) some h o = letter x o.0
+one_letter (x ∷ y ∷ w) some h o = absurd (omega arith)
+
+pub formed : (m : ℕ) (w : List ℕ) → 0 < length w → length w ≤ m → Over 16 w → IsText (text m w) w
+formed zero w some h o = absurd (omega arith)
+formed (suc m) w some h o = go (cases_lt (length w) 2) (formed m)
+  where
+    go : (length w < 2) ⊎ (2 ≤ length w) → ((v : List ℕ) → 0 < length v → length v ≤ m → Over 16 v → IsText (text m v) v) → IsText (text (suc m) w) w
+    go (inl l) more = rw (single m w l) (one_letter w some l o)
+    go (inr l) more =
+        let at = cut_within w l in
+        let a : length (take (cut w) w) ≡ cut w = length-take-le (cut w) w (omega (arith, at.1)) in
+        let b : length (drop (cut w) w) ≡ length w - cut w = length-drop (cut w) w in
+        let p = more (take (cut w) w) (omega (arith, at.0)) (omega (arith, at.1)) (over-take 16 (cut w) w o) in
+        let q = more (drop (cut w) w) (omega (arith, at.1)) (omega (arith, at.0)) (over-drop 16 (cut w) w o) in
+        let whole : IsText (pair (text m (take (cut w) w)) (text m (drop (cut w) w))) w = rw take-append-drop at (bracket p q) in
+        rw (double m w l) whole
 
 pub texts : Texts
 texts = record {

@@ -10,7 +10,7 @@ pub fn is_symbol(byte: u8) -> bool
     matches!(byte, b'0'..=b'9' | b'a'..=b'f')
 }
 
-/// The letter of a symbol.
+/// The letter of a symbol. Which bytes are symbols says `is_symbol`.
 pub fn letter_of(symbol: u8) -> u8
     ensures { result ≡ letter symbol }
 {

@@ -21,7 +21,7 @@ returns-then-number-entries c =
 
 pub invariant_of-entry : goal.invariant_of-entry
 invariant_of-entry c =
-    record { listed = rows_listed (view c.args.table.now) c.in_ok-shape.shape c.in_ok-shape.ensures.shape c.entries-entries.result.now c.entries-entries.ensures c.args.number c.args.buffer.now c.in_ok-shape.ensures.sound; named = c.if-number-entries.false }
+    record { listed = rows_listed (view c.args.table.now) c.in_ok-shape.shape c.in_ok-shape.ensures.shape c.entries-entries.result.now c.entries-entries.ensures c.in_ok-shape.ensures.sound; named = c.if-number-entries.false }
 
 pub returns-in_err-written : goal.returns-in_err-written
 returns-in_err-written c =
