@@ -3,8 +3,8 @@
 #![tactic(auto)]
 
 mod reader;
+mod text_word;
 mod token;
-mod word;
 
 pub use reader::read_bracket;
-pub use word::Word;
+pub use text_word::TextWord;

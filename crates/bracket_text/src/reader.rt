@@ -7,8 +7,8 @@ ghost use Rattle.bracket_text.specs.Brackets.{BracketOutcome, OneOutcome};
 ghost use Rattle.bracket_text.specs.Tokens.{Stands};
 ghost use Rattle.bracket_text.specs.Words.{letters_in};
 
+use crate::text_word::{LONGEST, TextWord};
 use crate::token::{Mark, Token};
-use crate::word::{LONGEST, Word};
 use lent_list::LentList;
 use text::{TextFault, letter_of};
 
@@ -33,7 +33,7 @@ const PARTS: usize = 1 + 3 * LONGEST;
 #[derive(Drop)]
 struct Reader<'a> {
     awaited: LentList<'a, Part>,
-    word: Word,
+    word: TextWord,
 }
 
 impl<'a> Reader<'a> {
@@ -52,7 +52,7 @@ impl<'a> Reader<'a> {
         let _ = awaited.push(Part::Text);
         Reader {
             awaited,
-            word: Word::empty(),
+            word: TextWord::empty(),
         }
     }
 
@@ -86,7 +86,7 @@ impl<'a> Reader<'a> {
 /// Reads a text of at most 45 bytes: a symbol, or two texts in brackets with a comma between.
 /// Any other text is refused as malformed, at the first byte at which no text can continue, or at its end.
 #[tactic(auto, using(crate::proofs::Outcomes::one_outcome, crate::proofs::Turns::reads))]
-pub fn read_bracket(text: &[u8]) -> Result<Word, TextFault>
+pub fn read_bracket(text: &[u8]) -> Result<TextWord, TextFault>
     ensures outcome { BracketOutcome text.now (told letters_in text_fault result) }
     ensures one { OneOutcome }
 {

@@ -6,13 +6,13 @@ pub(crate) const LONGEST: usize = 45;
 
 /// The letters of a text, in their order.
 #[derive(Clone, Copy)]
-pub struct Word {
+pub struct TextWord {
     places: [u8; LONGEST],
     count: usize,
     ghost within: { count ≤ 45 },
 }
 
-impl Word {
+impl TextWord {
     ghost use Rattle.bracket_text.specs.Words.{letters_in};
 
     /// No letters yet.
@@ -20,7 +20,7 @@ impl Word {
         ensures letters { letters_in result ≡ [] }
         ensures count { result.count ≡ 0 }
     {
-        Word {
+        TextWord {
             places: [0; LONGEST],
             count: 0,
         }
