@@ -56,7 +56,7 @@ impl<'a> Reader<'a> {
         }
     }
 
-    /// Takes the next mark.
+    /// Takes the next mark, where what is awaited begins with it.
     fn step(&mut self, mark: Mark) -> Result<(), TextFault>
         requires stands { (c : ℕ) × Stands c mark.token }
         requires room { length (items self.old.awaited) + 3 ≤ length (places self.old.awaited) }
@@ -66,8 +66,10 @@ impl<'a> Reader<'a> {
         ensures places { length (places self.new.awaited) ≡ length (places self.old.awaited) }
         ensures count { self.new.word.count ≤ self.old.word.count + 1 }
     {
+        // both together, so that one sees what may follow what
         match (self.awaited.pop(), mark.token) {
             (Some(Part::Text), Token::Symbol(symbol)) => self.word.push(letter_of(symbol[0])),
+            // there is room, so that this is no refusal
             (Some(Part::Text), Token::Open) => self.awaited.extend_from_slice(&BRACKET)?,
             (Some(Part::Comma), Token::Comma) | (Some(Part::Close), Token::Close) => {}
             _ => return Err(TextFault::Malformed(mark.place)),

@@ -27,20 +27,22 @@ pub data TextOutcome (k : ℕ) (es : List Entry) (text : List ℕ) : Outcome ℕ
   -- it is the text of an entry
   known : (i : ℕ) → i < length es → text ≡ entry_text k es i → TextOutcome k es text (answered i)
 
+-- what reading a text comes to, in a table, which may be closed
 unfoldable pub ReadOutcome : View → List ℕ → Outcome ℕ → Type 0
 ReadOutcome v text o =
     MatchOption v.shape (o ≡ refused (found 8 layer.Table 0 0)) (λ s. TextOutcome s.k v.entries text o)
 
--- the texts of entries over k letters
+-- how the texts of these entries over k letters are read
 pub record ReadBack (k : ℕ) (es : List Entry) : Type 0 where
   -- each text comes to one thing
   pub one : (text : List ℕ) (o p : Outcome ℕ) → TextOutcome k es text o → TextOutcome k es text p → o ≡ p
   -- the text of each entry is read as this entry
   pub back : (i : ℕ) → i < length es → (o : Outcome ℕ) → TextOutcome k es (entry_text k es i) o → o ≡ answered i
-  -- what is read as an entry is its text
+  -- a text that is read as an entry is the text of that entry
   pub accepted : (text : List ℕ) (i : ℕ) → TextOutcome k es text (answered i) → (i < length es) × (text ≡ entry_text k es i)
   -- no two entries have the same text
   pub apart : (i j : ℕ) → i < length es → j < length es → entry_text k es i ≡ entry_text k es j → i ≡ j
 
+-- the same for the entries of a table, where it is open
 unfoldable pub ReadsBack : View → Type 0
 ReadsBack v = (s : Dimensions) → v.shape ≡ Some s → ReadBack s.k v.entries
