@@ -1,6 +1,5 @@
 -- What a find answers, over plain values.
-use Rattle.std.proofs.Common.{◌≡◌, ℕ, suc, ◌^◌, ◌<◌, ◌≤◌, Bool, true, false, cond, ◌&&◌, eqb, ◌⊎◌, List, [], ◌∷◌, length, take, Some, Option, Ordering, Less, Equal, Greater, sym, refl, ap, ◌∙◌, subst, inl, inr, add-one}
-use borrow.Author.Tests.{clash}
+use Rattle.std.proofs.Common.{◌≡◌, ℕ, suc, ◌^◌, ◌<◌, ◌≤◌, Bool, true, false, cond, ◌&&◌, eqb, ◌⊎◌, List, [], ◌∷◌, length, take, Some, Option, sym, refl, ap, ◌∙◌, subst, inl, inr, add-one}
 use Rattle.std.specs.Ordering.{is_eq}
 use Rattle.std.specs.List.{AllByRecursion, position_from}
 use Rattle.std.proofs.lemmas.Bool.{cases_Bool, and_from, and_parts, eq-eqb, eqb-true, both_ways}
@@ -16,7 +15,7 @@ use Rattle.lyndon.specs.Words.{dictionary}
 use Rattle.lyndon.specs.Codes.{Over, code, spelled}
 use Rattle.lyndon.specs.Entries.{word, words}
 use Rattle.lyndon.proofs.Codes.{by_value_total, code-spelled, length-spelled, spelled-code}
-use Rattle.lyndon.proofs.Dictionary.{dictionary_total}
+use Rattle.lyndon.proofs.Dictionary.{same_words}
 use Rattle.lyndon.proofs.Entries.{listing_coded}
 use Rattle.word.specs.Faults.{letters_checked, length_checked}
 use Rattle.bracket_table.specs.Calls.{found_from, find_outcome}
@@ -28,11 +27,6 @@ use Rattle.lent_list.specs.Lent.{items, places}
 use Rattle.bracket_table.specs.Views.{View}
 use Rattle.bracket_table.proofs.Growing.{known}
 
-same_equal : (r : Ordering) → is_eq r ≡ true → r ≡ Equal
-same_equal Less h = absurd (clash h)
-same_equal Equal h = refl
-same_equal Greater h = absurd (clash h)
-
 module _ (k : ℕ) (some : 1 ≤ k) (w : List ℕ) (over : Over k w) where
   -- an entry has the word where it has its length and its code
   same_word : (e : Entry) → e.code < k ^ e.length → is_eq (dictionary by_value (word k e) w) ≡ (eqb e.length (length w) && eqb e.code (code k w))
@@ -43,7 +37,7 @@ module _ (k : ℕ) (some : 1 ≤ k) (w : List ℕ) (over : Over k w) where
 
       hit : is_eq (dictionary by_value (word k e) w) ≡ true → test ≡ true
       hit q =
-          let u : word k e ≡ w = ((dictionary_total by_value_total).same (word k e) w).0 (same_equal (dictionary by_value (word k e) w) q) in
+          let u : word k e ≡ w = (same_words by_value_total (word k e) w).0 q in
           let m : e.length ≡ length w = sym (length-spelled k e.length e.code) ∙ ap length u in
           let c : e.code ≡ code k w = sym (code-spelled k e.length e.code some h) ∙ ap (code k) u in
           and_from (eqb e.length (length w)) (eqb e.code (code k w)) (eq-eqb e.length (length w) m) (eq-eqb e.code (code k w) c)
@@ -54,7 +48,7 @@ module _ (k : ℕ) (some : 1 ≤ k) (w : List ℕ) (over : Over k w) where
           let m : e.length ≡ length w = eqb-true e.length (length w) p.0 in
           let c : e.code ≡ code k w = eqb-true e.code (code k w) p.1 in
           let u : word k e ≡ w = ap (λ z. spelled k z e.code) m ∙ ap (spelled k (length w)) c ∙ spelled-code k w some over in
-          ap is_eq (((dictionary_total by_value_total).same (word k e) w).1 u) ∙ sym t
+          (same_words by_value_total (word k e) w).1 u ∙ sym t
       go (inr t) = miss (cases_Bool (is_eq (dictionary by_value (word k e) w)))
         where
           miss : (is_eq (dictionary by_value (word k e) w) ≡ true) ⊎ (is_eq (dictionary by_value (word k e) w) ≡ false) → is_eq (dictionary by_value (word k e) w) ≡ test

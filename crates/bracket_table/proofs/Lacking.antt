@@ -1,7 +1,6 @@
 -- Which Lyndon words of a shape are no entries, over plain lists.
 use Rattle.std.proofs.Common.{◌≡◌, ℕ, suc, ◌+◌, ◌<◌, ◌≤◌, Bool, true, false, not, ◌||◌, ◌⊎◌, List, [], ◌∷◌, ◌++◌, map, length, take, drop, Some, None, is_some, is_none, nat_le, nat_lt, Decides, Ordering, sym, refl, ap, ◌∙◌, subst, inl, inr, arith, take-append-drop}
 use Rattle.std.specs.Ordering.{is_eq}
-use Rattle.std.specs.Cmp.{Equal-is}
 use Rattle.std.specs.List.{AllByRecursion, list_any}
 use Rattle.std.proofs.ByRecursion.{All-weaker, All-map}
 use Rattle.std.proofs.lemmas.Bool.{cases_Bool, cases_lt, both_ways, false≢true, false_from_ne_true, leb-true, le-leb, lt-ltb, le-ltb}
@@ -15,7 +14,7 @@ use Rattle.lyndon.specs.Codes.{spelled, Listed}
 use Rattle.lyndon.specs.Listing.{OfShape, In, Rising, keys}
 use Rattle.lyndon.specs.Entries.{listing, word, words}
 use Rattle.lyndon.proofs.Codes.{by_value_total, length-spelled}
-use Rattle.lyndon.proofs.Dictionary.{dictionary_total}
+use Rattle.lyndon.proofs.Dictionary.{same_words}
 use Rattle.lyndon.proofs.Entries.{length-listing, words_listed, words_rising, word_in}
 use Rattle.lyndon.proofs.Keys.{rest_each}
 use Rattle.lyndon.proofs.Missing.{not_twice}
@@ -38,7 +37,7 @@ found_in i (v ∷ vs) w = go (cases_Bool (is_eq r)) (found_in (suc i) vs w)
     r = dictionary by_value v w
 
     same : Decides (is_eq r) (v ≡ w)
-    same = (λ e. ((dictionary_total by_value_total).same v w).0 ((Equal-is r).0 e), λ e. (Equal-is r).1 (((dictionary_total by_value_total).same v w).1 e))
+    same = same_words by_value_total v w
 
     go : (is_eq r ≡ true) ⊎ (is_eq r ≡ false) → Decides (is_some (found_from (suc i) vs w)) (In w vs) → Decides (is_some (found_from i (v ∷ vs) w)) (In w (v ∷ vs))
     go (inl t) more = rw t (λ e. inl (sym (same.0 t)), λ h. refl)

@@ -4,7 +4,7 @@ use Rattle.std.specs.Prelude.{◌≢◌}
 use Rattle.std.proofs.lemmas.Bool.{false≢true}
 use Rattle.text.specs.Reading.{Viable}
 use Rattle.text.specs.Symbols.{symbol, letter, is_symbol}
-use Rattle.text.proofs.Letters.{letter-symbol, symbol_is, symbol_back}
+use Rattle.text.proofs.Letters.{letter_symbol, symbol_is, symbol_back}
 use Rattle.bracket_text.specs.Brackets.{pair, IsText}
 use Rattle.bracket_text.specs.Brackets.IsText.{letter as one, bracket as two}
 use Rattle.bracket_text.specs.States.{Fits, taken}
@@ -80,7 +80,7 @@ no_symbol x c h off e = false≢true (sym off ∙ ap is_symbol e ∙ symbol_is x
 
 symbol_back_at : (c : ℕ) → is_symbol c ≡ true → (ps : List Part) (t z s u r v : List ℕ) → IsText s u → Fits ps r v → c ∷ t ≡ s ++ r → z ≡ u ++ v → (y : List ℕ) × (z ≡ letter c ∷ y) × Fits ps t y
 symbol_back_at c is ps t z s u r v (one x h) f e d =
-    let q : letter c ≡ x = ap letter (head_is c (symbol x) t r e) ∙ letter-symbol x h in
+    let q : letter c ≡ x = ap letter (head_is c (symbol x) t r e) ∙ letter_symbol x h in
     (v, rw q d, rw (tail_is c (symbol x) t r e) f)
 symbol_back_at c is ps t z s u r v (two {s = a} {t = b} f g) k e d =
     let q : c ≡ 91 = head_is c 91 t ((a ++ (44 ∷ (b ++ 93 ∷ []))) ++ r) e in

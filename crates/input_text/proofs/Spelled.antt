@@ -13,7 +13,7 @@ use Rattle.text.specs.Reading.{Begins}
 use Rattle.text.specs.Digits.{Digit}
 use Rattle.text.proofs.Reading.{begins_at}
 use Rattle.text.specs.Symbols.{symbol, letter, is_symbol}
-use Rattle.text.proofs.Letters.{letter-symbol, symbol_is, symbol_back}
+use Rattle.text.proofs.Letters.{letter_symbol, symbol_is, symbol_back}
 use Rattle.input_text.specs.Symbols.{NoSymbol}
 use Rattle.input_text.specs.Words.{IsWord}
 
@@ -68,8 +68,8 @@ word_cut (x ∷ u) [] s t e small other stop end = absurd (no_more t x (map symb
 word_cut (x ∷ u) (y ∷ w) s t e small other stop end =
     let first : symbol x ≡ symbol y = cc in
     let rest : map symbol u ++ s ≡ map symbol w ++ t = cc in
-    let a = letter-symbol x (All-head (λ z. z < 16) x u small) in
-    let b = letter-symbol y (All-head (λ z. z < 16) y w other) in
+    let a = letter_symbol x (All-head (λ z. z < 16) x u small) in
+    let b = letter_symbol y (All-head (λ z. z < 16) y w other) in
     let cut = word_cut u w s t rest (All-tail (λ z. z < 16) x u small) (All-tail (λ z. z < 16) y w other) stop end in
     (ap₂ ◌∷◌ (sym a ∙ ap letter first ∙ b) cut.0, cut.1)
 

@@ -1,6 +1,8 @@
 -- Dictionary order is an order of words.
 use Rattle.std.proofs.Common.{◌≡◌, ◌≤◌, ◌⊎◌, List, [], ◌∷◌, ◌++◌, length, Ordering, Less, Equal, Greater, sym, refl, ap, ◌∙◌, subst, inl, inr, arith, length-append}
-use Rattle.std.specs.Ordering.{ordering_reverse, ordering_then}
+use Rattle.std.specs.Prelude.{Decides}
+use Rattle.std.specs.Ordering.{is_eq, ordering_reverse, ordering_then}
+use Rattle.std.specs.Cmp.{Equal-is}
 use Rattle.letter_order.specs.Orders.{TotalOrder}
 use Rattle.lyndon.specs.Words.{dictionary, Before}
 use Rattle.lyndon.proofs.Orders as orders
@@ -84,6 +86,13 @@ module _ {A : Type 0} {ranks : A → A → Ordering} (o : TotalOrder ranks) wher
     transitive = dictionary_transitive;
     same = λ u v. (alike u v, λ e. rw e (itself v));
   }
+
+  -- the test for the same word is right
+  pub same_words : (u v : List A) → Decides (is_eq (dictionary ranks u v)) (u ≡ v)
+  same_words u v = (
+    λ e. alike u v ((Equal-is (dictionary ranks u v)).0 e),
+    λ e. (Equal-is (dictionary ranks u v)).1 ((dictionary_total.same u v).1 e),
+  )
 
   pub irrefl : (u : List A) → Before ranks u u → ⊥
   irrefl = orders.not_itself dictionary_total

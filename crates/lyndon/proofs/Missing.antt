@@ -7,7 +7,7 @@ use Rattle.lyndon.proofs.Codes.{by_value_total}
 use Rattle.lyndon.proofs.Dictionary.{irrefl}
 use Rattle.lyndon.proofs.Rises.{in_either, in_all, rising_split}
 
-not_itself : (v : List ℕ) → Listed v v → ⊥
+pub not_itself : (v : List ℕ) → Listed v v → ⊥
 not_itself v (inl l) = omega arith
 not_itself v (inr b) = irrefl by_value_total v b.1
 

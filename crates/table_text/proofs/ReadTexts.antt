@@ -16,8 +16,7 @@ use Rattle.lyndon.specs.Codes.{Over, Listed}
 use Rattle.lyndon.specs.Listing.{OfShape}
 use Rattle.lyndon.specs.Theorems.{FirstEntries}
 use Rattle.lyndon.specs.Entries.{word, words, no_entry}
-use Rattle.lyndon.proofs.Codes.{by_value_total}
-use Rattle.lyndon.proofs.Dictionary.{irrefl}
+use Rattle.lyndon.proofs.Missing.{not_itself}
 use Rattle.lyndon.proofs.Rises.{rising_at}
 use Rattle.coded_word.proofs.Passed.{below_passes}
 use Rattle.coded_word.specs.declared.shape.Shape.{Shape}
@@ -73,11 +72,7 @@ module _ (k n : ℕ) (some : 1 ≤ k) (few : k ≤ 16) (short : n ≤ 12) (es : 
       let words_at : (a : ℕ) → a < length es → get_or (words k es) a [] ≡ at a = λ a h. get_or-map (word k) es a no_entry [] h in
       let size : length (words k es) ≡ length es = length-map es (word k) in
       let l : Listed (at i) (at j) = rw (words_at i (omega arith), words_at j here) at (rising_at Listed (words k es) i j [] first.first.rising less (omega (arith, size))) in
-      itself (at j) (rw e at l)
-    where
-      itself : (v : List ℕ) → Listed v v → ⊥
-      itself v (inl h) = omega arith
-      itself v (inr b) = irrefl by_value_total v b.1
+      not_itself (at j) (rw e at l)
 
   apart : (i j : ℕ) → i < length es → j < length es → entry_text k es i ≡ entry_text k es j → i ≡ j
   apart i j hi hj e =
