@@ -33,6 +33,10 @@ pub record FirstMissing (k n : ℕ) (ws : List (List ℕ)) (w : List ℕ) : Type
   pub missing : In w ws → ⊥
   pub first : (v : List ℕ) → OfShape k n v → (In v ws → ⊥) → (v ≡ w) ⊎ Listed w v
 
+-- each Lyndon word of the shape that has at most m letters is one of ws
+abbrev pub CompleteTo : ℕ → ℕ → ℕ → List (List ℕ) → Type 0
+CompleteTo k n m ws = (w : List ℕ) → OfShape k n w → length w ≤ m → In w ws
+
 -- ---- as a list of lengths and codes
 
 -- is it a Lyndon word?

@@ -1,0 +1,53 @@
+-- Lists of calls on a table.
+use Rattle.std.specs.Prelude.{ℕ, ◌+◌, Bool, true, false, cond, List, [], ◌∷◌, Some, None, Option}
+use Rattle.faults.specs.Outcome.{Outcome}
+use Rattle.faults.specs.Outcome.Outcome.{answered, refused}
+use Rattle.bracket_table.specs.Calls.{opened, grow_in, grow_outcome, grown}
+use Rattle.bracket_table.specs.Views.{Dimensions, View, fresh, shape_checked}
+
+-- A call, with what it brings. What the values of a sheet are makes no difference to a table, so only their number is
+-- told, and sheets over different rings may stand in one list.
+pub data Call : Type 0 where
+  Open : (k n : ℕ) → Call
+  Grow : Call
+  Look : (number : ℕ) → Call
+  Find : (letters : List ℕ) → Call
+  Expand : (number size : ℕ) → Call
+  Into : (m size : ℕ) → Call
+  Back : (m size : ℕ) → Call
+  Lie : (m size : ℕ) → Call
+  Join : (a x b y size : ℕ) → Call
+  Line : (number : ℕ) (buffer : List ℕ) → Call
+  Read : (text : List ℕ) → Call
+
+-- what is seen of a table after a call
+abbrev pub next : Call → View → View
+next (Open k n) v = opened k n (shape_checked k n) v
+next Grow v = grown (grow_outcome v) v
+next call v = v
+
+-- what is seen of it after these calls, the latest first, where it was fresh, with room for so many entries
+abbrev pub after : ℕ → List Call → View
+after room [] = fresh room
+after room (call ∷ calls) = next call (after room calls)
+
+-- ---- which calls were accepted, as the calls and the room tell it
+
+abbrev pub accepted : {X : Type 0} → Outcome X → Bool
+accepted (answered x) = true
+accepted (refused fault) = false
+
+-- the shape that the latest accepted open was given
+abbrev pub shape_after : List Call → Option Dimensions
+shape_after [] = None
+shape_after (Open k n ∷ calls) = cond (accepted (shape_checked k n)) (Some (record { k = k; n = n })) (shape_after calls)
+shape_after (call ∷ calls) = shape_after calls
+
+-- how many grows were accepted since
+abbrev pub grows_after : ℕ → List Call → ℕ
+grows_after room [] = 0
+grows_after room (Open k n ∷ calls) = cond (accepted (shape_checked k n)) 0 (grows_after room calls)
+grows_after room (Grow ∷ calls) =
+    let grows = grows_after room calls in
+    cond (accepted (grow_in (shape_after calls) grows room)) (grows + 1) grows
+grows_after room (call ∷ calls) = grows_after room calls
