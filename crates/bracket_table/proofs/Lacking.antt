@@ -1,5 +1,5 @@
 -- Which Lyndon words of a shape are no entries, over plain lists.
-use Rattle.std.proofs.Common.{◌≡◌, ℕ, suc, ◌+◌, ◌<◌, ◌≤◌, Bool, true, false, not, ◌||◌, ◌⊎◌, List, [], ◌∷◌, ◌++◌, map, length, take, drop, Some, None, is_some, is_none, nat_le, nat_lt, Decides, Ordering, sym, refl, ap, ◌∙◌, subst, inl, inr, arith, take-append-drop}
+use Rattle.std.proofs.Common.{◌≡◌, ℕ, suc, ◌+◌, ◌-◌, ◌<◌, ◌≤◌, Bool, true, false, not, ◌||◌, ◌⊎◌, List, [], ◌∷◌, ◌++◌, map, length, take, drop, Some, None, is_some, is_none, nat_le, nat_lt, Decides, Ordering, sym, refl, ap, ◌∙◌, subst, inl, inr, arith, take-append-drop}
 use Rattle.std.specs.Ordering.{is_eq}
 use Rattle.std.specs.List.{AllByRecursion, list_any}
 use Rattle.std.proofs.ByRecursion.{All-weaker, All-map}
@@ -11,11 +11,11 @@ use Rattle.letter_order.specs.Orders.{by_value}
 use Rattle.lyndon.specs.declared.entry.Entry.{Entry}
 use Rattle.lyndon.specs.Words.{dictionary}
 use Rattle.lyndon.specs.Codes.{spelled, Listed}
-use Rattle.lyndon.specs.Listing.{OfShape, In, Rising, keys}
+use Rattle.lyndon.specs.Listing.{OfShape, In, Rising, CompleteTo, keys}
 use Rattle.lyndon.specs.Entries.{listing, word, words}
 use Rattle.lyndon.proofs.Codes.{by_value_total, length-spelled}
 use Rattle.lyndon.proofs.Dictionary.{same_words}
-use Rattle.lyndon.proofs.Entries.{length-listing, words_listed, words_rising, word_in}
+use Rattle.lyndon.proofs.Entries.{length-listing, words_listed, words_rising, word_in, first_entries}
 use Rattle.lyndon.proofs.Keys.{rest_each}
 use Rattle.lyndon.proofs.Missing.{not_twice}
 use Rattle.lyndon.proofs.Rises.{in_all, in_either, in_map, in_right}
@@ -23,7 +23,7 @@ use Rattle.coded_word.specs.declared.coded.CodedWord.{CodedWord}
 use Rattle.coded_word.specs.declared.coded.Cursor.{Cursor}
 use Rattle.coded_word.specs.Scan.{FirstFrom, left_from}
 use Rattle.lent_list.specs.Lent.{items}
-use Rattle.bracket_table.specs.Calls.{found_from, misses, lacks, complete_outcome}
+use Rattle.bracket_table.specs.Calls.{found_from, misses, lacks, complete_outcome, CompleteUpTo, Completed}
 use Rattle.bracket_table.specs.Seen.{view}
 use Rattle.bracket_table.specs.declared.Table.{Table}
 use Rattle.bracket_table.proofs.Growing.{known, left}
@@ -66,7 +66,7 @@ lacking m vs ws =
     Decides-and (nat_le (length w) m) (is_none (found_from 0 vs w)) (leb-true (length w) m, le-leb (length w) m) (Decides-not (is_some (found_from 0 vs w)) (found_in 0 vs w))) ws
 
 -- where none is lacking, each Lyndon word of the shape with at most m letters is the word of an entry
-pub all_there : (k n m : ℕ) → 1 ≤ k → (es : List Entry) → lacks k n m es ≡ false → (w : List ℕ) → OfShape k n w → length w ≤ m → In w (words k es)
+all_there : (k n m : ℕ) → 1 ≤ k → (es : List Entry) → lacks k n m es ≡ false → CompleteTo k n m (words k es)
 all_there k n m some es full w W l =
     elim (cases_Bool (is_some (found_from 0 (words k es) w))) [
       | inl e ↦ (found_in 0 (words k es) w).0 e
@@ -74,6 +74,15 @@ all_there k n m some es full w W l =
           let i = subst (In w) (sym (words_listed k n some)) (word_in k n some w W) in
           absurd (not_from_Decides (lacks k n m es) (lacking m (words k es) (words k (listing k n))) full (w, i, (l, not_from_Decides (is_some (found_from 0 (words k es) w)) (found_in 0 (words k es) w) e)))
     ]
+
+-- and where each is, none is lacking
+pub none_lacks : (k n m : ℕ) → 1 ≤ k → (es : List Entry) → CompleteTo k n m (words k es) → lacks k n m es ≡ false
+none_lacks k n m some es complete =
+    false_from_ne_true (lacks k n m es)
+    (λ e.
+    let h = (lacking m (words k es) (words k (listing k n))).0 e in
+    let W : OfShape k n h.0 = in_all (OfShape k n) h.0 (words k (listing k n)) (first_entries k n some (listing k n) (sym (take_all (length (listing k n)) (listing k n) (omega arith)))).first.lyndon h.1 in
+    h.2.1 (complete h.0 W h.2.0))
 
 module _ (k n : ℕ) (some : 1 ≤ k) (es : List Entry) (listed : es ≡ take (length es) (listing k n)) where
   abbrev spell : ℕ × ℕ → List ℕ
@@ -117,7 +126,7 @@ none_lacking k n m some =
 
 -- ---- of a table
 
-module _ (t : Table) (x : Cursor) (is : t.next ≡ Some x) (m : ℕ) where
+module _ (t : Table) (x : Cursor) (is : t.next ≡ Some x) where
   abbrev k : ℕ
   k = x.shape.k
 
@@ -133,25 +142,63 @@ module _ (t : Table) (x : Cursor) (is : t.next ≡ Some x) (m : ℕ) where
   missing : drop (length es) (keys k n) ≡ left_from x
   missing = left t.next x is es t.listed t.missing
 
-  says : (b : Bool) → b ≡ lacks k n m es → answered (not b) ≡ complete_outcome (view t) m
-  says b e = rw (is, e) refl
+  -- none is lacking of at most m letters, where all that are left are longer
+  none : (m : ℕ) → AllByRecursion (λ y. m < y.0) (left_from x) → false ≡ lacks k n m es
+  none m a = all_long k n x.shape.some es listed (left_from x) missing m a
 
-  none_left : AllByRecursion (λ y. m < y.0) (left_from x) → answered true ≡ complete_outcome (view t) m
-  none_left a = says false (all_long k n x.shape.some es listed (left_from x) missing m a)
+  -- one is lacking, where the first that is left has at most m letters
+  some : (m : ℕ) (w : CodedWord) → FirstFrom x (Some w) → w.length ≤ m → true ≡ lacks k n m es
+  some m w N l = first_short k n x.shape.some es listed (left_from x) missing m (w.length, w.code) (rw N.1 (inl refl)) l
 
-  -- the scan has come to longer words
-  pub complete_far : m < x.length → answered true ≡ complete_outcome (view t) m
-  complete_far l = none_left (rest_each k n x.length x.code (suc m) l)
+  -- the first that is left is longer, and so is all behind it
+  longer : (m : ℕ) (w : CodedWord) → FirstFrom x (Some w) → m < w.length → AllByRecursion (λ y. m < y.0) (left_from x)
+  longer m w N l = rw N.1 (l, rest_each k n w.length (w.code + 1) (suc m) l)
 
-  pub complete_none : FirstFrom x None → answered true ≡ complete_outcome (view t) m
-  complete_none e = none_left (rw e tt)
+  module _ (m : ℕ) where
+    says : (b : Bool) → b ≡ lacks k n m es → answered (not b) ≡ complete_outcome (view t) m
+    says b e = rw (is, e) refl
 
-  pub complete_next : (w : CodedWord) → FirstFrom x (Some w) → answered (nat_lt m w.length) ≡ complete_outcome (view t) m
-  complete_next w N =
-      elim (cases_lt m w.length) [
-        | inl l ↦ rw (lt-ltb m w.length l) (none_left (rw N.1 (l, rest_each k n w.length (w.code + 1) (suc m) l)))
-        | inr l ↦ rw (le-ltb m w.length l) (says true (first_short k n x.shape.some es listed (left_from x) missing m (w.length, w.code) (rw N.1 (inl refl)) l))
-      ]
+    -- the scan has come to longer words
+    pub complete_far : m < x.length → answered true ≡ complete_outcome (view t) m
+    complete_far l = says false (none m (rest_each k n x.length x.code (suc m) l))
 
--- what the answer follows from
+    pub complete_none : FirstFrom x None → answered true ≡ complete_outcome (view t) m
+    complete_none e = says false (none m (rw e tt))
+
+    pub complete_next : (w : CodedWord) → FirstFrom x (Some w) → answered (nat_lt m w.length) ≡ complete_outcome (view t) m
+    complete_next w N =
+        elim (cases_lt m w.length) [
+          | inl l ↦ rw (lt-ltb m w.length l) (says false (none m (longer m w N l)))
+          | inr l ↦ rw (le-ltb m w.length l) (says true (some m w N l))
+        ]
+
+    upto : CompleteUpTo k n es m → Completed (view t) m
+    unfolding Completed
+    upto c = rw is c
+
+    -- no word is left
+    pub upto_end : FirstFrom x None → m ≡ n → Completed (view t) m
+    upto_end e end =
+        upto (record {
+          within = omega (arith, end);
+          complete = all_there k n m x.shape.some es (sym (none m (rw e tt)));
+          greatest = λ l h c. omega (arith, end, h);
+        })
+
+    -- the first that is left is longer by one
+    pub upto_next : (w : CodedWord) → FirstFrom x (Some w) → m ≡ w.length - 1 → Completed (view t) m
+    upto_next w N before =
+        upto (record {
+          within = omega (arith, before, w.short, ap (λ s. s.n) N.0);
+          complete = all_there k n m x.shape.some es (sym (none m (longer m w N (omega (arith, before, w.some)))));
+          greatest = λ l h c.
+              elim (cases_lt l w.length) [
+                | inl j ↦ omega (arith, before, j)
+                | inr j ↦ absurd (both_ways (lacks k n l es) (none_lacks k n l x.shape.some es c) (sym (some l w N j)))
+              ];
+        })
+
+-- what the answers follow from
 pub ruleset completes = (complete_far, complete_none, complete_next)
+
+pub ruleset completed = (upto_end, upto_next)

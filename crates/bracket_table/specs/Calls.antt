@@ -1,5 +1,5 @@
 -- What the calls on a table come to.
-use Rattle.std.specs.Prelude.{ℕ, suc, Bool, cond, not, ◌&&◌, List, [], ◌∷◌, ◌++◌, length, Some, None, Option, is_none, nat_le, slice_index_or}
+use Rattle.std.specs.Prelude.{ℕ, suc, ◌≤◌, Bool, cond, not, ◌&&◌, List, [], ◌∷◌, ◌++◌, length, Some, None, Option, MatchOption, is_none, nat_le, slice_index_or}
 use Rattle.std.specs.Ordering.{is_eq}
 use Rattle.std.specs.List.{list_any, slice_get}
 use Rattle.faults.specs.declared.Layer.TheVariants as layer
@@ -9,6 +9,7 @@ use Rattle.faults.specs.Outcome.Outcome.{answered, refused}
 use Rattle.letter_order.specs.Orders.{by_value}
 use Rattle.lyndon.specs.declared.entry.Entry.{Entry}
 use Rattle.lyndon.specs.Words.{dictionary}
+use Rattle.lyndon.specs.Listing.{CompleteTo}
 use Rattle.lyndon.specs.Entries.{listing, words, no_entry}
 use Rattle.word.specs.Faults.{length_checked, letters_checked}
 use Rattle.bracket_table.specs.Views.{Dimensions, View}
@@ -82,3 +83,15 @@ lacks k n m es = list_any (misses m (words k es)) (words k (listing k n))
 
 abbrev pub complete_outcome : View → ℕ → Outcome Bool
 complete_outcome v m = when_open v.shape (λ s. answered (not (lacks s.k s.n m v.entries)))
+
+-- ---- complete_length
+
+-- m is the greatest length up to which each Lyndon word of the shape k, n is the word of an entry
+pub record CompleteUpTo (k n : ℕ) (es : List Entry) (m : ℕ) : Type 0 where
+  pub within : m ≤ n
+  pub complete : CompleteTo k n m (words k es)
+  pub greatest : (l : ℕ) → l ≤ n → CompleteTo k n l (words k es) → l ≤ m
+
+-- the table is open, and the same holds of its entries
+unfoldable pub Completed : View → ℕ → Type 0
+Completed v m = MatchOption v.shape ⊥ (λ s. CompleteUpTo s.k s.n v.entries m)

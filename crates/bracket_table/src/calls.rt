@@ -4,9 +4,11 @@ ghost use Rattle.faults.specs.Outcome.{told};
 ghost use Rattle.lent_list.specs.Lent.{items, places, SameMemory};
 ghost use Rattle.lyndon.specs.Entries.{no_entry};
 ghost use Rattle.lyndon.specs.Theorems.{Listings};
-ghost use Rattle.bracket_table.specs.Calls.{opened, grow_outcome, grown, look_outcome, find_outcome, complete_outcome};
+ghost use Rattle.bracket_table.specs.Calls.{grow_outcome, look_outcome, find_outcome, complete_outcome, Completed};
 ghost use Rattle.bracket_table.specs.Faults.{table_fault};
 ghost use Rattle.bracket_table.specs.Held.{IsNext};
+ghost use Rattle.bracket_table.specs.Runs.{next};
+ghost use Rattle.bracket_table.specs.Runs.Call.{Open, Grow, Look, Find};
 ghost use Rattle.bracket_table.specs.Search.{entry_for};
 ghost use Rattle.bracket_table.specs.Seen.{dimensions, view, memory, Sound, Adds};
 ghost use Rattle.bracket_table.specs.Views.{fresh, shape_checked};
@@ -35,7 +37,7 @@ impl<'a> Table<'a> {
     #[tactic(auto, using(crate::proofs::Growing::empty_listed, crate::proofs::Growing::empty_missing))]
     pub fn open(&mut self, k: u64, n: u64) -> Result<(), TableFault>
         ensures outcome { told (λ done. done) table_fault result ≡ shape_checked k n }
-        ensures view { view self.new ≡ opened k n (shape_checked k n) (view self.old) }
+        ensures step { view self.new ≡ next (Open k n) (view self.old) }
         ensures memory { memory self.new ≡ memory self.old }
         ensures refused { OnErr result (self.new ≡ self.old) }
         ensures lender { SameMemory self.old.entries self.new.entries }
@@ -50,7 +52,7 @@ impl<'a> Table<'a> {
     #[tactic(auto, using(lyndon::proofs::Entries::listings, crate::proofs::Growing::grows, crate::proofs::Same::same_table))]
     pub fn grow(&mut self) -> Result<usize, TableFault>
         ensures outcome { told (λ i. i) table_fault result ≡ grow_outcome (view self.old) }
-        ensures view { view self.new ≡ grown (grow_outcome (view self.old)) (view self.old) }
+        ensures step { view self.new ≡ next Grow (view self.old) }
         ensures first { IfOk result (λ i. Adds (view self.old) (slice_index_or (view self.new).entries i no_entry)) }
         ensures memory { MatchResult result
             (λ i. memory self.new ≡ slice_set (memory self.old) i (slice_index_or (view self.new).entries i no_entry))
@@ -68,6 +70,7 @@ impl<'a> Table<'a> {
     #[tactic(auto, using(crate::proofs::Growing::table_sound))]
     pub fn look(&mut self, number: usize) -> Result<Entry, TableFault>
         ensures outcome { told (λ e. e) table_fault result ≡ look_outcome (view self.old) number }
+        ensures step { view self.new ≡ next (Look number) (view self.old) }
         ensures same { self.new ≡ self.old }
         ensures sound { Sound (view self.old) }
     {
@@ -79,6 +82,7 @@ impl<'a> Table<'a> {
     #[tactic(auto, using(crate::proofs::Finding::table_finds))]
     pub fn find(&mut self, letters: &[u8]) -> Result<Option<usize>, TableFault>
         ensures outcome { told (λ i. i) table_fault result ≡ find_outcome (view self.old) letters.now }
+        ensures step { view self.new ≡ next (Find letters.now) (view self.old) }
         ensures same { self.new ≡ self.old }
     {
         let cursor = self.cursor()?;
@@ -98,6 +102,20 @@ impl<'a> Table<'a> {
         }
         let missing = cursor.next();
         Ok(missing.is_none_or(|word| usize::from(word.length) > letters))
+    }
+
+    /// The greatest length up to which every Lyndon word of the shape is an entry.
+    #[tactic(auto, using(crate::proofs::Lacking::completed))]
+    pub fn complete_length(&self) -> Result<u8, TableFault>
+        ensures { MatchResult result
+            (λ m. Completed (view self.now) m)
+            (λ f. ((view self.now).shape ≡ None) × (f ≡ TableFault.Closed)) }
+    {
+        let cursor = self.cursor()?;
+        Ok(match cursor.next() {
+            None => cursor.shape.n,
+            Some(word) => word.length - 1,
+        })
     }
 
     /// The shape, where the table is open.

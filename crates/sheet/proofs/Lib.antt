@@ -5,3 +5,4 @@ pub mod Parts
 pub mod Multiples
 pub mod Expanded
 pub mod StepByStep
+pub mod OnlyLyndon

@@ -13,7 +13,7 @@ use Rattle.lyndon.specs.Entries.{word}
 use Rattle.polynomial.specs.Polynomials.{P}
 use Rattle.sheet_laws.specs.Sheets.{sheet_of, bracket}
 use Rattle.sheet_laws.specs.Coordinates.{combined, Coordinates}
-use Rattle.sheet_laws.specs.Brackets.{LyndonAlone}
+use Rattle.sheet_laws.specs.Brackets.{OnlyLyndon}
 
 -- what a call of the table layer comes to, which this layer makes, and what follows where it answers
 abbrev pub followed : {X Y : Type 0} → Outcome X → (X → Outcome Y) → Outcome Y
@@ -88,6 +88,6 @@ combined_in ring (Some s) m c = combined ring s.k m c
 -- ---- lie
 
 -- of the coordinates c of a sheet of length m, each at a word that is not Lyndon is zero
-abbrev pub LyndonAloneIn : {A : Type 0} → Operations A → Option Dimensions → ℕ → List A → Type 0
-LyndonAloneIn ring None m c = ⊥
-LyndonAloneIn ring (Some s) m c = LyndonAlone ring s.k m c
+abbrev pub OnlyLyndonIn : {A : Type 0} → Operations A → Option Dimensions → ℕ → List A → Type 0
+OnlyLyndonIn ring None m c = ⊥
+OnlyLyndonIn ring (Some s) m c = OnlyLyndon ring s.k m c

@@ -1,5 +1,7 @@
 //! Coordinates of sheets, in place.
-ghost use Rattle.std.specs.Prelude.{◌≡◌, ◌^◌, ◌<◌, ◌≤◌, ◌↔◌, IsTrue, MatchResult, length};
+ghost use Rattle.std.specs.Prelude.{◌≡◌, ◌^◌, ◌≤◌, MatchResult, length};
+ghost use Rattle.bracket_table.specs.Runs.{next};
+ghost use Rattle.bracket_table.specs.Runs.Call.{Into, Back};
 ghost use Rattle.bracket_table.specs.Seen.{view};
 ghost use Rattle.faults.specs.Outcome.{told};
 ghost use Rattle.sheet.specs.Calls.{CoordinatesIn, combined_in, conversion_outcome};
@@ -11,6 +13,7 @@ use crate::adding::add_polynomial;
 use crate::checks::check_conversion;
 use crate::expansion::ROOM;
 use crate::fault::SheetFault;
+use crate::places::{is_zero, word_at};
 use bracket_table::Table;
 use coded_word::{CodedWord, Shape};
 use ring::Ring;
@@ -23,6 +26,7 @@ pub fn into<R: Ring>(table: &mut Table, m: usize, sheet: &mut [R]) -> Result<(),
     ensures sheet { MatchResult result
         (λ _. CoordinatesIn R.ring (view table.old).shape m sheet.old sheet.new)
         (λ _. sheet.new ≡ sheet.old) }
+    ensures step { view table.new ≡ next (Into m (length sheet.old)) (view table.old) }
     ensures same { table.new ≡ table.old }
     ensures one_set { EverySheet R.ring }
 {
@@ -38,6 +42,7 @@ pub fn back<R: Ring>(table: &mut Table, m: usize, sheet: &mut [R]) -> Result<(),
     ensures sheet { MatchResult result
         (λ _. sheet.new ≡ combined_in R.ring (view table.old).shape m sheet.old)
         (λ _. sheet.new ≡ sheet.old) }
+    ensures step { view table.new ≡ next (Back m (length sheet.old)) (view table.old) }
     ensures same { table.new ≡ table.old }
     ensures one_set { EverySheet R.ring }
 {
@@ -121,27 +126,4 @@ fn put_back<R: Ring>(word: CodedWord, sheet: &mut [R], memory: &mut [Term])
     }
     sheet[place] = R::zero();
     add_polynomial(word, coordinate, sheet, memory);
-}
-
-/// The word that has its value at this place of a sheet of length m.
-#[tactic(auto, using(coded_word::proofs::Bounds::fits))]
-fn word_at(shape: Shape, m: u8, place: usize) -> CodedWord
-    requires length { (1 ≤ m) × (m ≤ shape.n) }
-    requires place { place < shape.k ^ m }
-    ensures shape { result.shape ≡ shape }
-    ensures length { result.length ≡ m }
-    ensures code { result.code ≡ place }
-{
-    CodedWord {
-        shape,
-        length: m,
-        code: place as u16,
-    }
-}
-
-/// Whether a value is zero.
-fn is_zero<R: Ring>(value: R) -> bool
-    ensures { IsTrue result ↔ (value ≡ R.ring.zero) }
-{
-    value.same(R::zero())
 }

@@ -1,6 +1,8 @@
 //! P of an entry as a sheet.
 ghost use Rattle.std.specs.Prelude.{◌≡◌, ℕ, ◌^◌, ◌<◌, length, MatchResult, slice_index_or};
 ghost use Rattle.std.specs.List.{slice_get};
+ghost use Rattle.bracket_table.specs.Runs.{next};
+ghost use Rattle.bracket_table.specs.Runs.Call.{Expand};
 ghost use Rattle.bracket_table.specs.Seen.{view};
 ghost use Rattle.coded_word.specs.Words.{word_of};
 ghost use Rattle.faults.specs.Outcome.{told};
@@ -26,6 +28,7 @@ pub fn expand<R: Ring>(table: &mut Table, number: usize, sheet: &mut [R]) -> Res
     ensures sheet { MatchResult result
         (λ _. sheet.new ≡ expanded_in R.ring (view table.old).shape (slice_get (view table.old).entries number))
         (λ _. sheet.new ≡ sheet.old) }
+    ensures step { view table.new ≡ next (Expand number (length sheet.old)) (view table.old) }
     ensures same { table.new ≡ table.old }
     ensures polynomials { BracketPolynomials }
 {

@@ -1,5 +1,7 @@
 //! The bracket of two sheets.
 ghost use Rattle.std.specs.Prelude.{◌≡◌, length, MatchResult};
+ghost use Rattle.bracket_table.specs.Runs.{next};
+ghost use Rattle.bracket_table.specs.Runs.Call.{Join};
 ghost use Rattle.bracket_table.specs.Seen.{view};
 ghost use Rattle.faults.specs.Outcome.{told};
 ghost use Rattle.sheet.specs.Calls.{join_outcome, joined_in};
@@ -25,6 +27,7 @@ pub fn join<R: Ring>(
     ensures sheet { MatchResult result
         (λ _. sheet.new ≡ joined_in R.ring (view table.old).shape a x.now b y.now)
         (λ _. sheet.new ≡ sheet.old) }
+    ensures step { view table.new ≡ next (Join a (length x.now) b (length y.now) (length sheet.old)) (view table.old) }
     ensures same { table.new ≡ table.old }
 {
     let shape = table.shape()?;

@@ -9,13 +9,16 @@ mod expanding;
 mod expansion;
 mod fault;
 mod joining;
+mod places;
 mod product;
+mod recognizing;
 mod sum;
 
 pub use converting::{back, into};
 pub use expanding::expand;
 pub use fault::SheetFault;
 pub use joining::join;
+pub use recognizing::lie;
 
 #[cfg(test)]
 mod tests {
@@ -94,6 +97,14 @@ mod tests {
         there && back(table, 5, sheet).is_ok() && holds(sheet, &SHEET)
     }
 
+    /// Whether the coordinates of entry 10 are at Lyndon words alone, and those of the other sheet are not.
+    fn is_told_apart<R: Ring>(table: &mut Table, sheet: &mut [R]) -> bool {
+        let written = expand(table, 10, sheet).is_ok() && into(table, 5, sheet).is_ok();
+        let alone = written && lie(table, 5, sheet) == Ok(true);
+        write(&COORDINATES, sheet);
+        alone && lie(table, 5, sheet) == Ok(false)
+    }
+
     #[test]
     fn an_entry_is_expanded_and_joined(rt: HostRuntime) {
         let mut memory = [Entry::default(); 11];
@@ -125,6 +136,8 @@ mod tests {
         let mut table = grown(&mut memory);
         assert!(rt; is_converted(&mut table, &mut [Mod64::zero(); 32]));
         assert!(rt; is_converted(&mut table, &mut [false; 32]));
+        assert!(rt; is_told_apart(&mut table, &mut [Mod64::zero(); 32]));
+        assert!(rt; is_told_apart(&mut table, &mut [false; 32]));
     }
 
     #[test]

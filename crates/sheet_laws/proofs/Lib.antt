@@ -6,3 +6,5 @@ pub mod Added
 pub mod Triangles
 pub mod Conversion
 pub mod Coordinates
+pub mod Scattered
+pub mod BracketSums

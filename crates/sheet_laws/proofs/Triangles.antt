@@ -44,12 +44,12 @@ module _ {A : Type 0} (ring : Operations A) where
     pub done : (u : ℕ) → u < length xs → w ≤ u → ring.plus (column T w (at xs) u) (at ys u) ≡ ring.plus (column T u (at xs) u) (at xs u)
 
 module _ {A : Type 0} {ring : Operations A} (l : CommutativeRing ring) where
-  sum_same : (n : ℕ) (f g : ℕ → A) → ((w : ℕ) → w < n → f w ≡ g w) → sum ring n f ≡ sum ring n g
+  pub sum_same : (n : ℕ) (f g : ℕ → A) → ((w : ℕ) → w < n → f w ≡ g w) → sum ring n f ≡ sum ring n g
   sum_same zero f g h = refl
   sum_same (suc n) f g h = ap₂ ring.plus (sum_same n f g (λ w k. h w (omega arith))) (h n (omega arith))
 
   -- terms that are zero may be left out at the end
-  sum_short : (m n : ℕ) (f : ℕ → A) → m ≤ n → ((w : ℕ) → m ≤ w → w < n → f w ≡ ring.zero) → sum ring n f ≡ sum ring m f
+  pub sum_short : (m n : ℕ) (f : ℕ → A) → m ≤ n → ((w : ℕ) → m ≤ w → w < n → f w ≡ ring.zero) → sum ring n f ≡ sum ring m f
   sum_short m zero f le h = let e : zero ≡ m = omega arith in ap (λ j. sum ring j f) e
   sum_short m (suc n) f le h =
       elim (cases_lt n m) [

@@ -26,5 +26,5 @@ module _ {A : Type 0} (ring : Operations A) (k m : ℕ) where
       (values : List A) × (length values ≡ length (of_length m es)) × (sheet ≡ sheet_of k m (multiples values (of_length m es)))
 
   -- each coordinate at a word that is not Lyndon is zero
-  unfoldable pub LyndonAlone : List A → Type 0
-  LyndonAlone c = (w : List ℕ) → Over k w → length w ≡ m → (Lyndon by_value w → ⊥) → coefficient ring k c w ≡ ring.zero
+  unfoldable pub OnlyLyndon : List A → Type 0
+  OnlyLyndon c = (w : List ℕ) → Over k w → length w ≡ m → (Lyndon by_value w → ⊥) → coefficient ring k c w ≡ ring.zero

@@ -5,6 +5,8 @@
 ghost use Rattle.std.specs.Prelude.{◌≡◌};
 ghost use Rattle.faults.specs.Outcome.{told};
 ghost use Rattle.bracket_table.specs.Faults.{table_fault};
+ghost use Rattle.bracket_table.specs.Runs.{next};
+ghost use Rattle.bracket_table.specs.Runs.Call.{Line};
 ghost use Rattle.bracket_table.specs.Seen.{view};
 ghost use Rattle.table_text.specs.Lines.{line_outcome, line_left, Texts};
 
@@ -25,6 +27,7 @@ pub use reading::read;
 pub fn line(table: &mut Table, number: usize, buffer: &mut [u8]) -> Result<usize, TableFault>
     ensures outcome { told (λ n. n) table_fault result ≡ line_outcome (view table.old) number buffer.old }
     ensures buffer { buffer.new ≡ line_left (view table.old) number buffer.old }
+    ensures step { view table.new ≡ next (Line number buffer.old) (view table.old) }
     ensures same { table.new ≡ table.old }
     ensures texts { Texts }
 {

@@ -2,6 +2,8 @@
 ghost use Rattle.std.specs.Prelude.{◌≡◌};
 ghost use Rattle.faults.specs.Outcome.{told};
 ghost use Rattle.bracket_table.specs.Faults.{table_fault};
+ghost use Rattle.bracket_table.specs.Runs.{next};
+ghost use Rattle.bracket_table.specs.Runs.Call.{Read};
 ghost use Rattle.bracket_table.specs.Seen.{view};
 ghost use Rattle.table_text.specs.Reads.{ReadOutcome, ReadsBack};
 
@@ -15,6 +17,7 @@ use word::check_letters;
 #[tactic(auto, using(crate::proofs::ReadTexts::reads))]
 pub fn read(table: &mut Table, text: &[u8]) -> Result<usize, TableFault>
     ensures outcome { ReadOutcome (view table.old) text.now (told (λ i. i) table_fault result) }
+    ensures step { view table.new ≡ next (Read text.now) (view table.old) }
     ensures same { table.new ≡ table.old }
     ensures back { ReadsBack (view table.old) }
 {

@@ -12,12 +12,12 @@ returns-in_err-shape c =
     let p = err_from_is_err_and c.from_residual.result c.from_residual.ensures.1 in
     let closed = c.in_err-shape.ensures.shape in
     let l = line_closed (view c.args.table.now) c.args.number c.args.buffer.now closed.0 in
-    rw (p.1, p.2, closed.1) (record { outcome = l.0; buffer = l.1; same = refl; texts = texts })
+    rw (p.1, p.2, closed.1) (record { outcome = l.0; buffer = l.1; step = refl; same = refl; texts = texts })
 
 pub returns-then-number-entries : goal.returns-then-number-entries
 returns-then-number-entries c =
     let l = line_past (view c.args.table.now) c.in_ok-shape.shape c.in_ok-shape.ensures.shape c.entries-entries.result.now c.entries-entries.ensures c.args.number c.args.buffer.now c.if-number-entries.true in
-    record { outcome = l.0; buffer = l.1; same = refl; texts = texts }
+    record { outcome = l.0; buffer = l.1; step = refl; same = refl; texts = texts }
 
 pub invariant_of-entry : goal.invariant_of-entry
 invariant_of-entry c =
@@ -30,6 +30,7 @@ returns-in_err-written c =
     (record {
       outcome = line_at (view c.args.table.now) c.in_ok-shape.shape c.in_ok-shape.ensures.shape c.entries-entries.result.now c.entries-entries.ensures c.args.number c.args.buffer.now c.if-number-entries.false (refused (text_fault c.in_err-written.field-0.0)) c.in_err-written.ensures.outcome;
       buffer = left_at (view c.args.table.now) c.in_ok-shape.shape c.in_ok-shape.ensures.shape c.entries-entries.result.now c.entries-entries.ensures c.args.number c.args.buffer.now c.if-number-entries.false c.write_line.new.buffer c.write_line.ensures.buffer;
+      step = refl;
       same = refl;
       texts = texts;
     })
@@ -38,6 +39,7 @@ pub returns : goal.returns
 returns c = record {
   outcome = line_at (view c.args.table.now) c.in_ok-shape.shape c.in_ok-shape.ensures.shape c.entries-entries.result.now c.entries-entries.ensures c.args.number c.args.buffer.now c.if-number-entries.false (answered c.in_ok-written.written) c.in_ok-written.ensures.outcome;
   buffer = left_at (view c.args.table.now) c.in_ok-shape.shape c.in_ok-shape.ensures.shape c.entries-entries.result.now c.entries-entries.ensures c.args.number c.args.buffer.now c.if-number-entries.false c.write_line.new.buffer c.write_line.ensures.buffer;
+  step = refl;
   same = refl;
   texts = texts;
 }

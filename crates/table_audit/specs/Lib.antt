@@ -1,0 +1,2 @@
+pub mod Law
+pub mod Outcome
