@@ -1,3 +1,4 @@
 mod Sizes
 mod Shown
 mod Reports
+mod Counted

@@ -11,7 +11,9 @@ ghost use Rattle.table.specs.Seen.{line_in, lines_in};
 use bracket_table::Table;
 use grown_table::grow_all;
 use input_text::Numbers;
+use ring::Mod64;
 use std::alloc::{AllocError, Global};
+use table_audit::audit;
 use table_text::line;
 use text::write_header_line;
 
@@ -23,7 +25,7 @@ const LONGEST: usize = 74;
 const HEADER: usize = 32;
 
 /// The header and the line of every entry, for a table that was just opened.
-#[tactic(auto, using(grown_table::proofs::Rooms::all_entries))]
+#[tactic(auto, using(grown_table::proofs::Rooms::all_entries, crate::proofs::Counted::audit_answers, crate::proofs::Counted::audit_counts))]
 pub(crate) fn table_lines(
     heap: Global,
     numbers: Numbers,
@@ -33,8 +35,10 @@ pub(crate) fn table_lines(
     ensures { IfOk result (λ lines. lines.items ≡ printed_table numbers.k numbers.n) }
 {
     grow_all(table);
+    // it is open; nothing is asked of the ring
+    let growth = audit::<Mod64>(table).unwrap();
     let mut lines = Vec::new(heap);
-    push_header(&mut lines, numbers, table.entries().len())?;
+    push_header(&mut lines, numbers, growth.entries)?;
     push_entries(&mut lines, table)?;
     Ok(lines)
 }
