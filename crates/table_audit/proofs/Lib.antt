@@ -1,2 +1,3 @@
 pub mod Runs
 pub mod Law
+pub mod Reached

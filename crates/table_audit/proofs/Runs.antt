@@ -59,7 +59,7 @@ told (Some s) count room =
       ]
     ]
 
-grows : (room : ℕ) (shape : Option Dimensions) (count : ℕ) (v : View) → Stands room shape count v → Stands room shape (cond (accepted (grow_in shape count room)) (count + 1) count) (grown (grow_outcome v) v)
+pub grows : (room : ℕ) (shape : Option Dimensions) (count : ℕ) (v : View) → Stands room shape count v → Stands room shape (cond (accepted (grow_in shape count room)) (count + 1) count) (grown (grow_outcome v) v)
 grows room shape count v S = subst (λ o. Stands room shape (cond (accepted (grow_in shape count room)) (count + 1) count) (grown o v)) (sym same) (go (told shape count room))
   where
     same : grow_outcome v ≡ grow_in shape count room

@@ -48,3 +48,7 @@ pub record Law {A : Type 0} (ring : Operations A) (room : ℕ) (calls : List Cal
 -- the law of a table that is seen as v, for every list of calls that leads there
 unfoldable pub EveryList : {A : Type 0} → Operations A → View → Type 0
 EveryList ring v = (room : ℕ) (calls : List Call) → v ≡ after room calls → Law ring room calls v
+
+-- some list of calls leads to a table that is seen as v
+unfoldable pub Reached : View → Type 0
+Reached v = (room : ℕ) × (calls : List Call) × (v ≡ after room calls)

@@ -7,7 +7,7 @@ ghost use Rattle.faults.specs.Outcome.{told};
 ghost use Rattle.bracket_table.specs.Calls.{Completed};
 ghost use Rattle.bracket_table.specs.Faults.{table_fault};
 ghost use Rattle.bracket_table.specs.Seen.{view};
-ghost use Rattle.table_audit.specs.Law.{EveryList};
+ghost use Rattle.table_audit.specs.Law.{EveryList, Reached};
 ghost use Rattle.table_audit.specs.Outcome.{count_outcome};
 
 use bracket_table::{Table, TableFault};
@@ -23,12 +23,13 @@ pub struct Growth {
 }
 
 /// How far a table is grown, for a user whose sheets are over this ring.
-#[tactic(auto, using(crate::proofs::Law::every_list, crate::proofs::Law::counted))]
+#[tactic(auto, using(crate::proofs::Law::every_list, crate::proofs::Law::counted, crate::proofs::Reached::reached))]
 pub fn audit<R: Ring>(table: &mut Table) -> Result<Growth, TableFault>
     ensures outcome { told (λ g. g.entries) table_fault result ≡ count_outcome (view table.old) }
     ensures complete { IfOk result (λ g. Completed (view table.old) g.complete) }
     ensures same { table.new ≡ table.old }
     ensures law { EveryList R.ring (view table.old) }
+    ensures reached { Reached (view table.old) }
 {
     Ok(Growth {
         entries: table.entries().len(),
