@@ -22,7 +22,7 @@ use Rattle.bracket_table.specs.Faults.{table_fault}
 use Rattle.bracket_table.specs.declared.Table.{Table}
 use Rattle.bracket_table.specs.declared.fault.TableFault.{TableFault}
 use Rattle.bracket_table.specs.Views.{View}
-use Rattle.table_text.proofs.Lining.{left_at, line_at}
+use Rattle.table_text.proofs.Lining.{left_there, line_at}
 use Rattle.table.specs.Seen.{line_in}
 use Rattle.table.proofs.Sizes.{entry_line_size}
 
@@ -56,10 +56,10 @@ module _ (x : Cursor) (es : List Entry) (room : ℕ) (listed : es ≡ take (leng
       entry_line_size x.shape.k i e (omega (arith, few (Some x) x refl es listed)) (omega (arith, of_shape.lyndon.some)) (omega (arith, of_shape.short, x.shape.depth)) (first.parts i here).earlier
 
   told_of : (buffer : List ℕ) → line_outcome (seen (Some x) es room) i buffer ≡ passed_up layer.Table (written line buffer)
-  told_of buffer = sym (line_at (seen (Some x) es room) x.shape refl es refl i buffer here (written line buffer) refl)
+  told_of buffer = sym (line_at (seen (Some x) es room) i buffer x.shape refl es refl here (written line buffer) refl)
 
   left_of : (buffer : List ℕ) → line_left (seen (Some x) es room) i buffer ≡ left line buffer
-  left_of buffer = sym (left_at (seen (Some x) es room) x.shape refl es refl i buffer here (left line buffer) refl)
+  left_of buffer = sym (left_there (seen (Some x) es room) i buffer x.shape refl es refl here (left line buffer) refl)
 
 -- a table that was never opened has none
 none_listed : (es : List Entry) (i : ℕ) → es ≡ take (length es) [] → i < length es → ⊥

@@ -24,6 +24,7 @@ pub use reading::read;
 
 /// Writes number, word, left, right and text of an entry to the front of a buffer, with a space between and a line
 /// feed behind. Answers how many bytes were written. A refused call leaves the buffer as it was.
+#[tactic(auto, using(crate::proofs::Lining::lines, crate::proofs::Texts::texts))]
 pub fn line(table: &mut Table, number: usize, buffer: &mut [u8]) -> Result<usize, TableFault>
     ensures outcome { told (λ n. n) table_fault result ≡ line_outcome (view table.old) number buffer.old }
     ensures buffer { buffer.new ≡ line_left (view table.old) number buffer.old }
