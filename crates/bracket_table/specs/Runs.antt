@@ -5,18 +5,20 @@ use Rattle.faults.specs.Outcome.Outcome.{answered, refused}
 use Rattle.bracket_table.specs.Calls.{opened, grow_in, grow_outcome, grown}
 use Rattle.bracket_table.specs.Views.{Dimensions, View, fresh, shape_checked}
 
--- A call, with what it brings. What the values of a sheet are makes no difference to a table, so only their number is
--- told, and sheets over different rings may stand in one list.
+-- A call, with what it brings. Only open and grow change a table. What the values of a sheet are makes no difference to
+-- it: only how many they are is told here, so sheets over different rings may stand in one list.
 pub data Call : Type 0 where
   Open : (k n : ℕ) → Call
   Grow : Call
   Look : (number : ℕ) → Call
   Find : (letters : List ℕ) → Call
   Expand : (number size : ℕ) → Call
+  -- a length, and the size of a sheet
   Into : (m size : ℕ) → Call
   Back : (m size : ℕ) → Call
   Lie : (m size : ℕ) → Call
-  Join : (a x b y size : ℕ) → Call
+  -- two lengths, each with the size of a sheet, and the size of the sheet that is written
+  Join : (a a_size b b_size size : ℕ) → Call
   Line : (number : ℕ) (buffer : List ℕ) → Call
   Read : (text : List ℕ) → Call
 
@@ -26,7 +28,7 @@ next (Open k n) v = opened k n (shape_checked k n) v
 next Grow v = grown (grow_outcome v) v
 next call v = v
 
--- what is seen of it after these calls, the latest first, where it was fresh, with room for so many entries
+-- what is seen after these calls, the latest first, of a table that began fresh, with room for so many entries
 abbrev pub after : ℕ → List Call → View
 after room [] = fresh room
 after room (call ∷ calls) = next call (after room calls)

@@ -12,7 +12,7 @@ pub record Dimensions : Type 0 where
   pub n : ℕ
 
 pub record View : Type 0 where
-  -- those of the latest accepted open; none until then
+  -- the k and n of the latest accepted open; none until then
   pub shape : Option Dimensions
   -- by their numbers
   pub entries : List Entry

@@ -47,8 +47,8 @@ words k es = map (word k) es
 abbrev pub no_entry : Entry
 no_entry = record { length = 0; code = 0; left = 0; right = 0 }
 
--- the entry e, number i of es, is a letter, or names two earlier ones: one after the other they spell it, and the
--- second is its longest proper suffix that is Lyndon
+-- the entry e, number i of es, is a letter, which has no parts and 65,535 for both; or it names two earlier ones: one
+-- after the other they spell it, and the second is its longest proper suffix that is Lyndon
 pub record Parted (k : ℕ) (es : List Entry) (i : ℕ) (e : Entry) : Type 0 where
   pub letter : e.length ≡ 1 → (e.left ≡ 65535) × (e.right ≡ 65535)
   pub earlier : 1 < e.length → (e.left < i) × (e.right < i)

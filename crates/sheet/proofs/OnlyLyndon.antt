@@ -12,7 +12,7 @@ use Rattle.lyndon.specs.Listing.{lyndon}
 use Rattle.lyndon.proofs.Codes.{lyndon_says, says_lyndon, length-spelled, spelled-over, code-spelled, code_below, spelled-code}
 use Rattle.sheet_laws.specs.Brackets.{OnlyLyndon}
 use Rattle.bracket_table.specs.Views.{Dimensions}
-use Rattle.sheet.specs.Calls.{OnlyLyndonIn}
+use Rattle.sheet.specs.Calls.{LieSaysYes}
 
 module _ {A : Type 0} (ring : Operations A) (k m : ℕ) (c : List A) where
   -- of the coordinates below a place, each at a word that is not Lyndon is zero
@@ -65,5 +65,5 @@ module _ {A : Type 0} (ring : Operations A) (k m : ℕ) (c : List A) (p : ℕ) (
       (λ d. absurd (clash (sym e ∙ d)), λ a. absurd (other (sym there ∙ a w (spelled-over k m p some h) (length-spelled k m p) no_word)))
 
 module _ {A : Type 0} (ring : Operations A) (shape : Option Dimensions) (k n m : ℕ) (c : List A) (b : Bool) where
-  pub only_lyndon_in : shape ≡ Some (record { k = k; n = n }) → Decides b (OnlyLyndon ring k m c) → Decides b (OnlyLyndonIn ring shape m c)
-  only_lyndon_in e h = rw e h
+  pub says_yes : shape ≡ Some (record { k = k; n = n }) → Decides b (OnlyLyndon ring k m c) → Decides b (LieSaysYes ring shape m c)
+  says_yes e h = rw e h

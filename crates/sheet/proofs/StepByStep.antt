@@ -8,7 +8,7 @@ use Rattle.sheet_laws.specs.Steps.{taken_out, reduced, put_back, restored}
 use Rattle.sheet_laws.proofs.Conversion.{taken_none, put_none}
 use Rattle.sheet_laws.proofs.Coordinates.{reduced_coordinates, restored_combined}
 use Rattle.bracket_table.specs.Views.{Dimensions}
-use Rattle.sheet.specs.Calls.{CoordinatesIn, combined_in}
+use Rattle.sheet.specs.Calls.{IntoLeaves, back_leaves}
 
 module _ {A : Type 0} (ring : Operations A) (laws : Laws ring) (k m p : ℕ) (s : List A) (x : A) where
   pub none_taken : x ≡ get_or s p x → x ≡ ring.zero → length s ≡ k ^ m → 0 < k → p < k ^ m → s ≡ taken_out ring k m p s
@@ -36,8 +36,8 @@ restored_less ring k m p s t z e h f =
 -- ---- when all steps are taken
 
 module _ {A : Type 0} (ring : Operations A) (laws : Laws ring) (shape : Option Dimensions) (k n m : ℕ) (s t : List A) where
-  pub all_reduced : shape ≡ Some (record { k = k; n = n }) → t ≡ reduced ring k m (k ^ m) s → length s ≡ k ^ m → 0 < k → CoordinatesIn ring shape m s t
+  pub all_reduced : shape ≡ Some (record { k = k; n = n }) → t ≡ reduced ring k m (k ^ m) s → length s ≡ k ^ m → 0 < k → IntoLeaves ring shape m s t
   all_reduced e f h some = rw (e, f) (reduced_coordinates ring laws k m some s h)
 
-  pub all_restored : shape ≡ Some (record { k = k; n = n }) → t ≡ restored ring k m (k ^ m) s → length s ≡ k ^ m → 0 < k → t ≡ combined_in ring shape m s
-  all_restored e f h some = f ∙ restored_combined ring laws k m some s h ∙ sym (ap (λ d. combined_in ring d m s) e)
+  pub all_restored : shape ≡ Some (record { k = k; n = n }) → t ≡ restored ring k m (k ^ m) s → length s ≡ k ^ m → 0 < k → t ≡ back_leaves ring shape m s
+  all_restored e f h some = f ∙ restored_combined ring laws k m some s h ∙ sym (ap (λ d. back_leaves ring d m s) e)

@@ -58,7 +58,7 @@ abbrev pub joined_in : {A : Type 0} → Operations A → Option Dimensions → �
 joined_in ring None a x b y = []
 joined_in ring (Some s) a x b y = sheet_of s.k (a + b) (bracket ring s.k a b x y)
 
--- ---- into and back
+-- ---- into, back and lie
 
 -- m is to be a length of words
 abbrev pub length_checked : ℕ → ℕ → Outcome (Unit {0})
@@ -75,19 +75,17 @@ conversion_outcome v m size =
     checked (length_checked s.n m)
     (checked (size_checked s.k m size) (entries_checked s.k s.n m v.entries)))
 
--- c are the coordinates of a sheet of length m
-abbrev pub CoordinatesIn : {A : Type 0} → Operations A → Option Dimensions → ℕ → List A → List A → Type 0
-CoordinatesIn ring None m sheet c = ⊥
-CoordinatesIn ring (Some s) m sheet c = Coordinates ring s.k m sheet c
+-- into leaves c: they are coordinates of the sheet of length m
+abbrev pub IntoLeaves : {A : Type 0} → Operations A → Option Dimensions → ℕ → List A → List A → Type 0
+IntoLeaves ring None m sheet c = ⊥
+IntoLeaves ring (Some s) m sheet c = Coordinates ring s.k m sheet c
 
--- the sheet of length m with these coordinates
-abbrev pub combined_in : {A : Type 0} → Operations A → Option Dimensions → ℕ → List A → List A
-combined_in ring None m c = []
-combined_in ring (Some s) m c = combined ring s.k m c
+-- back leaves the sheet of length m with these coordinates
+abbrev pub back_leaves : {A : Type 0} → Operations A → Option Dimensions → ℕ → List A → List A
+back_leaves ring None m c = []
+back_leaves ring (Some s) m c = combined ring s.k m c
 
--- ---- lie
-
--- of the coordinates c of a sheet of length m, each at a word that is not Lyndon is zero
-abbrev pub OnlyLyndonIn : {A : Type 0} → Operations A → Option Dimensions → ℕ → List A → Type 0
-OnlyLyndonIn ring None m c = ⊥
-OnlyLyndonIn ring (Some s) m c = OnlyLyndon ring s.k m c
+-- lie says yes: of the coordinates of a sheet of length m, each at a word that is not Lyndon is zero
+abbrev pub LieSaysYes : {A : Type 0} → Operations A → Option Dimensions → ℕ → List A → Type 0
+LieSaysYes ring None m c = ⊥
+LieSaysYes ring (Some s) m c = OnlyLyndon ring s.k m c

@@ -4,7 +4,7 @@ ghost use Rattle.bracket_table.specs.Runs.{next};
 ghost use Rattle.bracket_table.specs.Runs.Call.{Into, Back};
 ghost use Rattle.bracket_table.specs.Seen.{view};
 ghost use Rattle.faults.specs.Outcome.{told};
-ghost use Rattle.sheet.specs.Calls.{CoordinatesIn, combined_in, conversion_outcome};
+ghost use Rattle.sheet.specs.Calls.{IntoLeaves, back_leaves, conversion_outcome};
 ghost use Rattle.sheet.specs.Faults.{sheet_fault};
 ghost use Rattle.sheet_laws.specs.Coordinates.{EverySheet};
 ghost use Rattle.sheet_laws.specs.Steps.{taken_out, reduced, put_back, restored};
@@ -24,7 +24,7 @@ use sheet_laws::Term;
 pub fn into<R: Ring>(table: &mut Table, m: usize, sheet: &mut [R]) -> Result<(), SheetFault>
     ensures outcome { told (λ done. done) sheet_fault result ≡ conversion_outcome (view table.old) m (length sheet.old) }
     ensures sheet { MatchResult result
-        (λ _. CoordinatesIn R.ring (view table.old).shape m sheet.old sheet.new)
+        (λ _. IntoLeaves R.ring (view table.old).shape m sheet.old sheet.new)
         (λ _. sheet.new ≡ sheet.old) }
     ensures step { view table.new ≡ next (Into m (length sheet.old)) (view table.old) }
     ensures same { table.new ≡ table.old }
@@ -40,7 +40,7 @@ pub fn into<R: Ring>(table: &mut Table, m: usize, sheet: &mut [R]) -> Result<(),
 pub fn back<R: Ring>(table: &mut Table, m: usize, sheet: &mut [R]) -> Result<(), SheetFault>
     ensures outcome { told (λ done. done) sheet_fault result ≡ conversion_outcome (view table.old) m (length sheet.old) }
     ensures sheet { MatchResult result
-        (λ _. sheet.new ≡ combined_in R.ring (view table.old).shape m sheet.old)
+        (λ _. sheet.new ≡ back_leaves R.ring (view table.old).shape m sheet.old)
         (λ _. sheet.new ≡ sheet.old) }
     ensures step { view table.new ≡ next (Back m (length sheet.old)) (view table.old) }
     ensures same { table.new ≡ table.old }

@@ -4,7 +4,7 @@ ghost use Rattle.bracket_table.specs.Runs.{next};
 ghost use Rattle.bracket_table.specs.Runs.Call.{Lie};
 ghost use Rattle.bracket_table.specs.Seen.{view};
 ghost use Rattle.faults.specs.Outcome.{told};
-ghost use Rattle.sheet.specs.Calls.{OnlyLyndonIn, conversion_outcome};
+ghost use Rattle.sheet.specs.Calls.{LieSaysYes, conversion_outcome};
 ghost use Rattle.sheet.specs.Faults.{sheet_fault};
 ghost use Rattle.sheet_laws.specs.Brackets.{OnlyLyndon};
 
@@ -16,10 +16,10 @@ use coded_word::Shape;
 use ring::Ring;
 
 /// Whether each coordinate at a word that is not Lyndon is zero, for the coordinates of a sheet of length m.
-#[tactic(auto, using(crate::proofs::OnlyLyndon::only_lyndon_in))]
+#[tactic(auto, using(crate::proofs::OnlyLyndon::says_yes))]
 pub fn lie<R: Ring>(table: &mut Table, m: usize, coordinates: &[R]) -> Result<bool, SheetFault>
     ensures outcome { told (λ _. tt) sheet_fault result ≡ conversion_outcome (view table.old) m (length coordinates.now) }
-    ensures answer { IfOk result (λ yes. Decides yes (OnlyLyndonIn R.ring (view table.old).shape m coordinates.now)) }
+    ensures answer { IfOk result (λ yes. Decides yes (LieSaysYes R.ring (view table.old).shape m coordinates.now)) }
     ensures step { view table.new ≡ next (Lie m (length coordinates.now)) (view table.old) }
     ensures same { table.new ≡ table.old }
 {

@@ -88,6 +88,6 @@ every room (Expand number size ∷ calls) = every room calls
 every room (Into m size ∷ calls) = every room calls
 every room (Back m size ∷ calls) = every room calls
 every room (Lie m size ∷ calls) = every room calls
-every room (Join a x b y size ∷ calls) = every room calls
+every room (Join a a_size b b_size size ∷ calls) = every room calls
 every room (Line number buffer ∷ calls) = every room calls
 every room (Read text ∷ calls) = every room calls

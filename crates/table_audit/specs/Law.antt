@@ -1,31 +1,35 @@
--- What every list of calls leaves of a table: the law that its users rest on.
-use Rattle.std.specs.Prelude.{◌≡◌, ℕ, ◌^◌, ◌<◌, ◌≤◌, Bool, List, length, Some, None, Decides, slice_index_or}
+-- What holds of a table after every list of calls on it.
+use Rattle.std.specs.Prelude.{◌≡◌, ℕ, ◌^◌, ◌<◌, ◌≤◌, ◌↔◌, List, length, Some, None, slice_index_or}
 use Rattle.faults.specs.Outcome.Outcome.{answered}
 use Rattle.ring_laws.specs.Rings.{Operations}
-use Rattle.lyndon.specs.Listing.{First, CompleteTo}
+use Rattle.lyndon.specs.Listing.{OfShape, In, First, CompleteTo}
 use Rattle.lyndon.specs.Entries.{words, no_entry, Parts}
-use Rattle.bracket_table.specs.Views.{Dimensions, View, fresh}
-use Rattle.bracket_table.specs.Calls.{look_outcome}
+use Rattle.polynomial.specs.Theorems.{BracketPolynomials}
+use Rattle.bracket_table.specs.Calls.{look_outcome, grow_outcome}
 use Rattle.bracket_table.specs.Runs.{Call, after, shape_after, grows_after}
-use Rattle.sheet_laws.specs.Coordinates.{Coordinates, OneSet}
+use Rattle.bracket_table.specs.Views.{Dimensions, View, fresh}
+use Rattle.sheet_laws.specs.Coordinates.{Coordinates}
 use Rattle.sheet_laws.specs.Brackets.{SumOfBrackets}
-use Rattle.sheet.specs.Calls.{conversion_outcome, CoordinatesIn, combined_in, OnlyLyndonIn}
+use Rattle.sheet.specs.Calls.{conversion_outcome, IntoLeaves, back_leaves, LieSaysYes}
 
--- what holds of a sheet of length m over k letters, where each Lyndon word of at most m letters is the word of an entry
-pub record Converted {A : Type 0} (ring : Operations A) (k m : ℕ) (v : View) (sheet : List A) : Type 0 where
-  -- into, back and lie take it
+-- what holds of a sheet of length m over k letters
+pub record SheetLaw {A : Type 0} (ring : Operations A) (k m : ℕ) (v : View) (sheet : List A) : Type 0 where
+  -- into takes it, and back and lie take as many coordinates
   pub taken : conversion_outcome v m (length sheet) ≡ answered tt
-  -- it has exactly one set of coordinates
-  pub one_set : OneSet ring k m sheet
-  -- these are what into leaves
-  pub into : (left : List A) → CoordinatesIn ring v.shape m sheet left → Coordinates ring k m sheet left
-  -- back, given them, returns the sheet
-  pub back : (c : List A) → Coordinates ring k m sheet c → combined_in ring v.shape m c ≡ sheet
-  -- lie says yes of them exactly when the sheet is a sum of multiples of the brackets of entries
-  pub lie : (c : List A) → Coordinates ring k m sheet c → (yes : Bool) → Decides yes (OnlyLyndonIn ring v.shape m c) → Decides yes (SumOfBrackets ring k m v.entries sheet)
+  -- it has these coordinates, and no others
+  pub coordinates : List A
+  pub has : Coordinates ring k m sheet coordinates
+  pub only : (c : List A) → Coordinates ring k m sheet c → c ≡ coordinates
+  -- into leaves them
+  pub into : (left : List A) → IntoLeaves ring v.shape m sheet left → left ≡ coordinates
+  -- back, given them, leaves the sheet
+  pub back : back_leaves ring v.shape m coordinates ≡ sheet
+  -- lie, given them, says yes exactly when the sheet is a sum of multiples of the brackets of entries
+  pub lie : LieSaysYes ring v.shape m coordinates ↔ SumOfBrackets ring k m v.entries sheet
 
--- what holds of a table whose latest accepted open was given k and n, with so many grows accepted since
-pub record Grown {A : Type 0} (ring : Operations A) (k n grows : ℕ) (v : View) : Type 0 where
+-- what holds of a table that was opened with k and n, when so many grows were accepted since
+pub record OpenLaw {A : Type 0} (ring : Operations A) (k n grows : ℕ) (v : View) : Type 0 where
+  -- these are its shape
   pub shape : v.shape ≡ Some (record { k = k; n = n })
   -- it has one entry for each of these grows
   pub count : length v.entries ≡ grows
@@ -36,19 +40,24 @@ pub record Grown {A : Type 0} (ring : Operations A) (k n grows : ℕ) (v : View)
   -- each of two or more letters names two earlier ones: one after the other they spell it, and the second is its
   -- longest proper suffix that is Lyndon
   pub parts : Parts k v.entries
-  -- every sheet of a length up to which no Lyndon word is missing
-  pub sheets : (m : ℕ) → 1 ≤ m → m ≤ n → CompleteTo k n m (words k v.entries) → (sheet : List A) → length sheet ≡ k ^ m → Converted ring k m v sheet
+  -- while a Lyndon word of the shape is missing and the memory has room, a grow is accepted
+  pub grow : (w : List ℕ) → OfShape k n w → (In w (words k v.entries) → ⊥) → length v.entries < v.room → grow_outcome v ≡ answered (length v.entries)
+  -- for each length up to which every Lyndon word is the word of an entry, every sheet keeps the law of sheets
+  pub sheets : (m : ℕ) → 1 ≤ m → m ≤ n → CompleteTo k n m (words k v.entries) → (sheet : List A) → length sheet ≡ k ^ m → SheetLaw ring k m v sheet
 
--- what holds after these calls, the latest first, on a table that began fresh, with room for so many entries
+-- what holds after these calls, the latest first, of a table that began fresh, with room for so many entries
 pub record Law {A : Type 0} (ring : Operations A) (room : ℕ) (calls : List Call) (v : View) : Type 0 where
-  -- until an open is accepted, the table is as it was
+  -- where no open was accepted, it is as it began
   pub closed : shape_after calls ≡ None → v ≡ fresh room
-  pub opened : (s : Dimensions) → shape_after calls ≡ Some s → Grown ring s.k s.n (grows_after room calls) v
+  -- by the latest open that was accepted
+  pub opened : (s : Dimensions) → shape_after calls ≡ Some s → OpenLaw ring s.k s.n (grows_after room calls) v
+  -- what P of a word is, of which coordinates and brackets are made
+  pub polynomials : BracketPolynomials
 
--- the law of a table that is seen as v, for every list of calls that leads there
+-- the law, for each list of calls by which a fresh table comes to be seen as v
 unfoldable pub EveryList : {A : Type 0} → Operations A → View → Type 0
 EveryList ring v = (room : ℕ) (calls : List Call) → v ≡ after room calls → Law ring room calls v
 
--- some list of calls leads to a table that is seen as v
+-- there is such a list
 unfoldable pub Reached : View → Type 0
 Reached v = (room : ℕ) × (calls : List Call) × (v ≡ after room calls)
