@@ -3,7 +3,7 @@ use Rattle.std.specs.Prelude.{ℕ, ◌+◌, Bool, true, false, cond, List, [], �
 use Rattle.faults.specs.Outcome.{Outcome}
 use Rattle.faults.specs.Outcome.Outcome.{answered, refused}
 use Rattle.bracket_table.specs.Calls.{opened, grow_in, grow_outcome, grown}
-use Rattle.bracket_table.specs.Views.{Dimensions, View, fresh, shape_checked}
+use Rattle.bracket_table.specs.Views.{Dimensions, View, shape_checked}
 
 -- A call, with what it brings. Only open and grow change a table. What the values of a sheet are makes no difference to
 -- it: only how many they are is told here, so sheets over different rings may stand in one list.
@@ -28,10 +28,10 @@ next (Open k n) v = opened k n (shape_checked k n) v
 next Grow v = grown (grow_outcome v) v
 next call v = v
 
--- what is seen after these calls, the latest first, of a table that began fresh, with room for so many entries
-abbrev pub after : ℕ → List Call → View
-after room [] = fresh room
-after room (call ∷ calls) = next call (after room calls)
+-- what is seen of it after these calls, the latest first, where v was seen before
+abbrev pub after : View → List Call → View
+after v [] = v
+after v (call ∷ calls) = next call (after v calls)
 
 -- ---- which calls were accepted, as the calls and the room tell it
 

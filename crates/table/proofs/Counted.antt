@@ -1,5 +1,5 @@
 -- How many entries an audit counts in a table that was opened and grown.
-use Rattle.std.proofs.Common.{◌≡◌, ℕ, length, Some, Ok, Err, Result, IsOk, refl, sym, ap, ◌∙◌}
+use Rattle.std.proofs.Common.{◌≡◌, ℕ, length, Ok, Result, IsOk, refl, sym, ap, ◌∙◌}
 use Rattle.faults.specs.Outcome.{Outcome, told}
 use Rattle.faults.specs.Outcome.Outcome.{answered}
 use Rattle.faults.proofs.Checks.{answers}

@@ -71,7 +71,7 @@ module _ {A : Type 0} (ring : Operations A) (laws : Laws ring) (k n : ℕ) (some
       }
 
 -- what stands after a list of calls
-module _ {A : Type 0} (ring : Operations A) (laws : Laws ring) (room : ℕ) (calls : List Call) (v : View) (is : v ≡ after room calls) where
+module _ {A : Type 0} (ring : Operations A) (laws : Laws ring) (room : ℕ) (calls : List Call) (v : View) (is : v ≡ after (fresh room) calls) where
   -- the shape, how many entries there are, and what is seen
   abbrev Seen : Option Dimensions → ℕ → Type 0
   Seen shape count = Stands room shape count v

@@ -13,7 +13,7 @@ use Rattle.bracket_table.specs.Held.{entries_in}
 use Rattle.bracket_table.specs.Runs.{Call, after}
 use Rattle.bracket_table.specs.Runs.Call.{Open, Grow}
 use Rattle.bracket_table.specs.Seen.{dimensions, view}
-use Rattle.bracket_table.specs.Views.{Dimensions, shape_checked}
+use Rattle.bracket_table.specs.Views.{Dimensions, fresh, shape_checked}
 use Rattle.bracket_table.specs.declared.Table.{Table}
 use Rattle.table_audit.specs.Law.{Reached}
 use Rattle.table_audit.proofs.Runs.{Stands, of_entries, grows}
@@ -37,13 +37,13 @@ module _ (s : Shape) (room : ℕ) where
   grow_accepted count there free = rw (lt-leb (length (listing s.k s.n)) count there, lt-leb room count free) refl
 
   -- an open and so many grows leave so many entries
-  left : (count : ℕ) → count ≤ length (listing s.k s.n) → count ≤ room → Stands room shape count (after room (with_grows count (Open s.k s.n ∷ [])))
+  left : (count : ℕ) → count ≤ length (listing s.k s.n) → count ≤ room → Stands room shape count (after (fresh room) (with_grows count (Open s.k s.n ∷ [])))
   left zero there free = rw (open_accepted s) (record { is = refl; within = omega arith; shaped = s.some })
   left (suc count) there free =
       let before = left count (omega arith) (omega arith) in
-      let more = grows room shape count (after room (with_grows count (Open s.k s.n ∷ []))) before in
-      let next : Stands room shape (count + 1) (after room (with_grows (suc count) (Open s.k s.n ∷ []))) = rw (grow_accepted count (omega arith) (omega arith)) at more in
-      subst (λ c. Stands room shape c (after room (with_grows (suc count) (Open s.k s.n ∷ [])))) (omega arith) next
+      let more = grows room shape count (after (fresh room) (with_grows count (Open s.k s.n ∷ []))) before in
+      let next : Stands room shape (count + 1) (after (fresh room) (with_grows (suc count) (Open s.k s.n ∷ []))) = rw (grow_accepted count (omega arith) (omega arith)) at more in
+      subst (λ c. Stands room shape c (after (fresh room) (with_grows (suc count) (Open s.k s.n ∷ [])))) (omega arith) next
 
 -- by the cursor of a table, its entries, and its room
 reached_by : (next : Option Cursor) (es : List Entry) (room : ℕ) → es ≡ take (length es) (entries_in next) → length es ≤ room → Reached (of_entries (dimensions next) room es)

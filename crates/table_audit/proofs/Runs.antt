@@ -78,10 +78,10 @@ grows room shape count v S = subst (λ o. Stands room shape (cond (accepted (gro
 
 -- ---- every list of calls
 
-pub every : (room : ℕ) (calls : List Call) → Stands room (shape_after calls) (grows_after room calls) (after room calls)
+pub every : (room : ℕ) (calls : List Call) → Stands room (shape_after calls) (grows_after room calls) (after (fresh room) calls)
 every room [] = begun room
-every room (Open k n ∷ calls) = opens room (shape_after calls) (grows_after room calls) (after room calls) k n (shape_checked k n) (shaped k n) (every room calls)
-every room (Grow ∷ calls) = grows room (shape_after calls) (grows_after room calls) (after room calls) (every room calls)
+every room (Open k n ∷ calls) = opens room (shape_after calls) (grows_after room calls) (after (fresh room) calls) k n (shape_checked k n) (shaped k n) (every room calls)
+every room (Grow ∷ calls) = grows room (shape_after calls) (grows_after room calls) (after (fresh room) calls) (every room calls)
 every room (Look number ∷ calls) = every room calls
 every room (Find letters ∷ calls) = every room calls
 every room (Expand number size ∷ calls) = every room calls

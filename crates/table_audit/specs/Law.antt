@@ -56,8 +56,8 @@ pub record Law {A : Type 0} (ring : Operations A) (room : ℕ) (calls : List Cal
 
 -- the law, for each list of calls by which a fresh table comes to be seen as v
 unfoldable pub EveryList : {A : Type 0} → Operations A → View → Type 0
-EveryList ring v = (room : ℕ) (calls : List Call) → v ≡ after room calls → Law ring room calls v
+EveryList ring v = (room : ℕ) (calls : List Call) → v ≡ after (fresh room) calls → Law ring room calls v
 
 -- there is such a list
 unfoldable pub Reached : View → Type 0
-Reached v = (room : ℕ) × (calls : List Call) × (v ≡ after room calls)
+Reached v = (room : ℕ) × (calls : List Call) × (v ≡ after (fresh room) calls)

@@ -1,3 +1,4 @@
+mod EveryCall
 mod Grows
 mod RoundTrips
 mod Refusals

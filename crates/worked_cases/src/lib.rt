@@ -5,9 +5,11 @@
 ghost use Rattle.worked_cases.specs.Holds.{AllHold};
 
 mod eleven_grows;
+mod every_call;
 mod round_trips;
 
 pub use eleven_grows::entry_ten;
+pub use every_call::after_every_call;
 pub use round_trips::{back_then_into, into_then_back};
 
 /// A fact on letters 0, 1, .. ordered by their value.

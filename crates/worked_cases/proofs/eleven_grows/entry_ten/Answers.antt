@@ -10,7 +10,7 @@ use Rattle.worked_cases.proofs.eleven_grows.entry_ten.Goals as goal
 
 pub loop-preserved : goal.loop-preserved
 loop-preserved c =
-    c.grow.ensures.view
+    c.grow.ensures.step
     ∙ ap (λ v. grown (grow_outcome v) v) c.loop.invariant
     ∙ after_grow (view c.open.new.self).room c.loop.counter c.loop-test.true
 
@@ -20,4 +20,4 @@ returns c =
     c.look.ensures.outcome
     ∙ ap (λ v. look_outcome v 10) (c.loop.invariant ∙ ap (after (view c.open.new.self).room) all)
     ∙ look_ten (view c.open.new.self).room
-    ∙ ap (λ v. refuse_if (ltb v.room 11) (found 10 layer.Table 0 0) (answered (record { length = 5; code = 5; left = 3; right = 2 }))) c.in_ok-open.ensures.view
+    ∙ ap (λ v. refuse_if (ltb v.room 11) (found 10 layer.Table 0 0) (answered (record { length = 5; code = 5; left = 3; right = 2 }))) c.in_ok-open.ensures.step
