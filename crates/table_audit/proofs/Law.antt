@@ -96,7 +96,7 @@ module _ {A : Type 0} (ring : Operations A) (laws : Laws ring) (room : ℕ) (cal
 
 pub every_list : {A : Type 0} (ring : Operations A) → Laws ring → (v : View) → EveryList ring v
 unfolding EveryList
-every_list ring laws v room calls e = record { closed = closed ring laws room calls v e; opened = opened ring laws room calls v e; polynomials = bracket_polynomials }
+every_list ring laws v room calls e = record { closed = closed ring laws room calls v e; opened = opened ring laws room calls v e; size = ap (λ w. w.room) ((stands ring laws room calls v e).is); polynomials = bracket_polynomials }
 
 -- ---- audit
 

@@ -51,6 +51,8 @@ pub record Law {A : Type 0} (ring : Operations A) (room : ℕ) (calls : List Cal
   pub closed : shape_after calls ≡ None → v ≡ fresh room
   -- by the latest open that was accepted
   pub opened : (s : Dimensions) → shape_after calls ≡ Some s → OpenLaw ring s.k s.n (grows_after room calls) v
+  -- its memory holds as many entries as it did
+  pub size : v.room ≡ room
   -- what P of a word is, of which coordinates and brackets are made
   pub polynomials : BracketPolynomials
 
