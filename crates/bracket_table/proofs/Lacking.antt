@@ -23,7 +23,7 @@ use Rattle.coded_word.specs.declared.coded.CodedWord.{CodedWord}
 use Rattle.coded_word.specs.declared.coded.Cursor.{Cursor}
 use Rattle.coded_word.specs.Scan.{FirstFrom, left_from}
 use Rattle.lent_list.specs.Lent.{items}
-use Rattle.bracket_table.specs.Calls.{found_from, misses, lacks, complete_outcome, CompleteUpTo, Completed}
+use Rattle.bracket_table.specs.Calls.{found_from, misses, lacks, complete_outcome, TellsComplete, CompleteUpTo, Completed}
 use Rattle.bracket_table.specs.Seen.{view}
 use Rattle.bracket_table.specs.declared.Table.{Table}
 use Rattle.bracket_table.proofs.Growing.{known, left}
@@ -66,7 +66,7 @@ lacking m vs ws =
     Decides-and (nat_le (length w) m) (is_none (found_from 0 vs w)) (leb-true (length w) m, le-leb (length w) m) (Decides-not (is_some (found_from 0 vs w)) (found_in 0 vs w))) ws
 
 -- where none is lacking, each Lyndon word of the shape with at most m letters is the word of an entry
-all_there : (k n m : ℕ) → 1 ≤ k → (es : List Entry) → lacks k n m es ≡ false → CompleteTo k n m (words k es)
+pub all_there : (k n m : ℕ) → 1 ≤ k → (es : List Entry) → lacks k n m es ≡ false → CompleteTo k n m (words k es)
 all_there k n m some es full w W l =
     elim (cases_Bool (is_some (found_from 0 (words k es) w))) [
       | inl e ↦ (found_in 0 (words k es) w).0 e
@@ -83,6 +83,14 @@ none_lacks k n m some es complete =
     let h = (lacking m (words k es) (words k (listing k n))).0 e in
     let W : OfShape k n h.0 = in_all (OfShape k n) h.0 (words k (listing k n)) (first_entries k n some (listing k n) (sym (take_all (length (listing k n)) (listing k n) (omega arith)))).first.lyndon h.1 in
     h.2.1 (complete h.0 W h.2.0))
+
+-- so this is a test for it
+complete_test : (k n m : ℕ) → 1 ≤ k → (es : List Entry) → Decides (not (lacks k n m es)) (CompleteTo k n m (words k es))
+complete_test k n m some es = go (cases_Bool (lacks k n m es))
+  where
+    go : (lacks k n m es ≡ true) ⊎ (lacks k n m es ≡ false) → Decides (not (lacks k n m es)) (CompleteTo k n m (words k es))
+    go (inl e) = rw e (λ h. absurd (false≢true h), λ c. absurd (both_ways (lacks k n m es) (none_lacks k n m some es c) e))
+    go (inr e) = rw e (λ h. all_there k n m some es e, λ c. refl)
 
 module _ (k n : ℕ) (some : 1 ≤ k) (es : List Entry) (listed : es ≡ take (length es) (listing k n)) where
   abbrev spell : ℕ × ℕ → List ℕ
@@ -172,6 +180,15 @@ module _ (t : Table) (x : Cursor) (is : t.next ≡ Some x) where
           | inr l ↦ rw (le-ltb m w.length l) (says true (some m w N l))
         ]
 
+    -- what the answer says
+    pub complete_told : (answer : Bool) → answered answer ≡ complete_outcome (view t) m → TellsComplete (view t) m answer
+    unfolding TellsComplete
+    complete_told answer e =
+        let full : Bool = not (lacks k n m es) in
+        let f : answered answer ≡ answered full = rw is at e in
+        let g : answer ≡ full = cc in
+        rw (is, g) (complete_test k n m x.shape.some es)
+
     upto : CompleteUpTo k n es m → Completed (view t) m
     unfolding Completed
     upto c = rw is c
@@ -199,6 +216,6 @@ module _ (t : Table) (x : Cursor) (is : t.next ≡ Some x) where
         })
 
 -- what the answers follow from
-pub ruleset completes = (complete_far, complete_none, complete_next)
+pub ruleset completes = (complete_far, complete_none, complete_next, complete_told)
 
 pub ruleset completed = (upto_end, upto_next)

@@ -1,5 +1,5 @@
 -- What the calls on a table come to.
-use Rattle.std.specs.Prelude.{ℕ, suc, ◌≤◌, Bool, cond, not, ◌&&◌, List, [], ◌∷◌, ◌++◌, length, Some, None, Option, MatchOption, is_none, nat_le, slice_index_or}
+use Rattle.std.specs.Prelude.{◌≡◌, ◌≢◌, ℕ, suc, ◌<◌, ◌≤◌, Bool, cond, not, ◌&&◌, List, [], ◌∷◌, ◌++◌, length, Some, None, Option, MatchOption, Decides, is_none, nat_le, slice_index_or}
 use Rattle.std.specs.Ordering.{is_eq}
 use Rattle.std.specs.List.{list_any, slice_get}
 use Rattle.faults.specs.declared.Layer.TheVariants as layer
@@ -10,7 +10,7 @@ use Rattle.letter_order.specs.Orders.{by_value}
 use Rattle.lyndon.specs.declared.entry.Entry.{Entry}
 use Rattle.lyndon.specs.Words.{dictionary}
 use Rattle.lyndon.specs.Listing.{CompleteTo}
-use Rattle.lyndon.specs.Entries.{listing, words, no_entry}
+use Rattle.lyndon.specs.Entries.{listing, word, words, no_entry}
 use Rattle.word.specs.Faults.{length_checked, letters_checked}
 use Rattle.bracket_table.specs.Views.{Dimensions, View}
 
@@ -28,7 +28,7 @@ opened k n (refused fault) v = v
 
 -- ---- grow
 
--- the number of the entry that is added, for a table of this shape with so many entries and places
+-- what a grow comes to: the number of the entry that is added, for a table of this shape with so many entries and places
 abbrev pub grow_in : Option Dimensions → ℕ → ℕ → Outcome ℕ
 grow_in shape count room =
     when_open shape (λ s.
@@ -71,6 +71,15 @@ find_outcome v w =
     checked (passed_up layer.Table (length_checked s.n (length w)))
     (checked (passed_up layer.Table (letters_checked s.k w)) (answered (found_from 0 (words s.k v.entries) w))))
 
+-- a number that an entry with the word w has, or none where no entry has the word
+abbrev pub Names : ℕ → List Entry → List ℕ → Option ℕ → Type 0
+Names k es w None = (i : ℕ) → i < length es → word k (slice_index_or es i no_entry) ≢ w
+Names k es w (Some i) = (i < length es) × (word k (slice_index_or es i no_entry) ≡ w)
+
+-- the table is open, and the same holds of its entries
+unfoldable pub Finds : View → List ℕ → Option ℕ → Type 0
+Finds v w number = MatchOption v.shape ⊥ (λ s. Names s.k v.entries w number)
+
 -- ---- is_complete_to
 
 -- has w at most m letters, and is it none of vs?
@@ -83,6 +92,10 @@ lacks k n m es = list_any (misses m (words k es)) (words k (listing k n))
 
 abbrev pub complete_outcome : View → ℕ → Outcome Bool
 complete_outcome v m = when_open v.shape (λ s. answered (not (lacks s.k s.n m v.entries)))
+
+-- the table is open, and the answer says whether each Lyndon word of its shape with at most m letters is the word of an entry
+unfoldable pub TellsComplete : View → ℕ → Bool → Type 0
+TellsComplete v m answer = MatchOption v.shape ⊥ (λ s. Decides answer (CompleteTo s.k s.n m (words s.k v.entries)))
 
 -- ---- complete_length
 

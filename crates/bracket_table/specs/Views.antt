@@ -19,7 +19,7 @@ pub record View : Type 0 where
   -- how many entries the memory can hold
   pub room : ℕ
 
--- a table that was never opened
+-- a table for which no open was accepted
 abbrev pub fresh : ℕ → View
 fresh room = record { shape = None; entries = []; room = room }
 

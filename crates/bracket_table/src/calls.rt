@@ -4,7 +4,7 @@ ghost use Rattle.faults.specs.Outcome.{told};
 ghost use Rattle.lent_list.specs.Lent.{items, places, SameMemory};
 ghost use Rattle.lyndon.specs.Entries.{no_entry};
 ghost use Rattle.lyndon.specs.Theorems.{Listings};
-ghost use Rattle.bracket_table.specs.Calls.{grow_outcome, look_outcome, find_outcome, complete_outcome, Completed};
+ghost use Rattle.bracket_table.specs.Calls.{grow_outcome, look_outcome, find_outcome, Finds, complete_outcome, TellsComplete, Completed};
 ghost use Rattle.bracket_table.specs.Faults.{table_fault};
 ghost use Rattle.bracket_table.specs.Held.{IsNext};
 ghost use Rattle.bracket_table.specs.Runs.{next};
@@ -79,9 +79,10 @@ impl<'a> Table<'a> {
     }
 
     /// The number of the entry with this word, or none where no entry has it.
-    #[tactic(auto, using(crate::proofs::Finding::table_finds))]
+    #[tactic(auto, using(crate::proofs::Finding::table_finds, crate::proofs::Found::table_found))]
     pub fn find(&mut self, letters: &[u8]) -> Result<Option<usize>, TableFault>
         ensures outcome { told (λ i. i) table_fault result ≡ find_outcome (view self.old) letters.now }
+        ensures found { IfOk result (λ number. Finds (view self.old) letters.now number) }
         ensures step { view self.new ≡ next (Find letters.now) (view self.old) }
         ensures same { self.new ≡ self.old }
     {
@@ -94,6 +95,7 @@ impl<'a> Table<'a> {
     #[tactic(auto, using(crate::proofs::Lacking::completes))]
     pub fn is_complete_to(&self, letters: usize) -> Result<bool, TableFault>
         ensures outcome { told (λ yes. yes) table_fault result ≡ complete_outcome (view self.now) letters }
+        ensures complete { IfOk result (λ yes. TellsComplete (view self.now) letters yes) }
     {
         let cursor = self.cursor()?;
         // no missing word is shorter than the place where the scan goes on, so often nothing need be scanned

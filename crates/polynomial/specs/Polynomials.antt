@@ -24,7 +24,8 @@ product (x ∷ xs) = times x (product xs)
 abbrev pub bracket : (List ℕ → ℤ) → (List ℕ → ℤ) → List ℕ → ℤ
 bracket x y u = times x y u -ℤ times y x u
 
--- P of a word of at most m letters: a letter; a Lyndon word by its split; any word by its factors
+-- P of a word of at most m letters: the empty word and a letter are themselves; a longer Lyndon word goes by its split,
+-- any other word by its factors
 unfoldable pub poly : ℕ → List ℕ → List ℕ → ℤ
 poly zero w = only w
 poly (suc m) w =

@@ -8,3 +8,4 @@ pub mod Conversion
 pub mod Coordinates
 pub mod Scattered
 pub mod BracketSums
+pub mod PartSheets

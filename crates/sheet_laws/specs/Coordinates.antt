@@ -24,6 +24,6 @@ pub record OneSet {A : Type 0} (ring : Operations A) (k m : ℕ) (sheet : List A
   pub exists : (c : List A) × Coordinates ring k m sheet c
   pub only : (c d : List A) → Coordinates ring k m sheet c → Coordinates ring k m sheet d → c ≡ d
 
--- every sheet of words of at most 12 letters has
+-- every sheet of a length of at most 12 has exactly one set of coordinates
 unfoldable pub EverySheet : {A : Type 0} → Operations A → Type 0
 EverySheet {A} ring = (k m : ℕ) → 1 ≤ k → m ≤ 12 → (sheet : List A) → length sheet ≡ k ^ m → OneSet ring k m sheet

@@ -38,7 +38,7 @@ module _ (s : Shape) (room : ℕ) where
 
   -- an open and so many grows leave so many entries
   left : (count : ℕ) → count ≤ length (listing s.k s.n) → count ≤ room → Stands room shape count (after (fresh room) (with_grows count (Open s.k s.n ∷ [])))
-  left zero there free = rw (open_accepted s) (record { is = refl; within = omega arith; shaped = s.some })
+  left zero there free = rw (open_accepted s) (record { is = refl; within = omega arith; shaped = (s.some, s.depth) })
   left (suc count) there free =
       let before = left count (omega arith) (omega arith) in
       let more = grows room shape count (after (fresh room) (with_grows count (Open s.k s.n ∷ []))) before in

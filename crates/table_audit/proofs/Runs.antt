@@ -1,6 +1,6 @@
 -- What is seen of a table after a list of calls.
-use Rattle.std.proofs.Common.{◌≡◌, ℕ, ◌+◌, ◌<◌, ◌≤◌, true, false, cond, ◌⊎◌, List, [], ◌∷◌, length, take, Some, None, Option, nat_le, refl, sym, ap, ◌∙◌, subst, inl, inr, arith}
-use Rattle.std.proofs.lemmas.Bool.{cases_lt, cases_Bool, le-leb, lt-leb, and_parts, leb-true, false≢true}
+use Rattle.std.proofs.Common.{◌≡◌, ℕ, ◌+◌, ◌<◌, ◌≤◌, true, cond, ◌⊎◌, List, [], ◌∷◌, length, take, Some, None, Option, refl, sym, ap, ◌∙◌, subst, inl, inr, arith}
+use Rattle.std.proofs.lemmas.Bool.{cases_lt, le-leb, lt-leb, false≢true}
 use Rattle.std.proofs.lemmas.List.{take_more, length-take-le}
 use Rattle.faults.specs.declared.Layer.TheVariants as layer
 use Rattle.faults.specs.Faults.{found}
@@ -12,12 +12,13 @@ use Rattle.lyndon.specs.Entries.{listing, no_entry}
 use Rattle.bracket_table.specs.Calls.{opened, grow_in, grow_outcome, grown, listing_of}
 use Rattle.bracket_table.specs.Runs.{Call, after, accepted, shape_after, grows_after}
 use Rattle.bracket_table.specs.Runs.Call.{Open, Grow, Look, Find, Expand, Into, Back, Lie, Join, Line, Read}
-use Rattle.bracket_table.specs.Views.{Dimensions, View, fresh, within, shape_checked}
+use Rattle.bracket_table.proofs.Shapes.{taken}
+use Rattle.bracket_table.specs.Views.{Dimensions, View, fresh, shape_checked}
 
--- a shape has letters
+-- a shape has letters, and no word of it has more than 12
 abbrev pub Shaped : Option Dimensions → Type 0
 Shaped None = Unit {0}
-Shaped (Some s) = 1 ≤ s.k
+Shaped (Some s) = (1 ≤ s.k) × (s.n ≤ 12)
 
 -- a table of this shape with so many entries, the first of its listing, and this room
 pub record Stands (room : ℕ) (shape : Option Dimensions) (count : ℕ) (v : View) : Type 0 where
@@ -32,11 +33,11 @@ begun room = record { is = refl; within = omega arith; shaped = tt }
 
 -- an open is accepted only for a shape
 shaped : (k n : ℕ) → accepted (shape_checked k n) ≡ true → Shaped (Some (record { k = k; n = n }))
-shaped k n h = go (cases_Bool (within 1 16 k))
+shaped k n e = go (shape_checked k n) refl e
   where
-    go : (within 1 16 k ≡ true) ⊎ (within 1 16 k ≡ false) → 1 ≤ k
-    go (inl e) = leb-true 1 k (and_parts (nat_le 1 k) (nat_le k 16) e).0
-    go (inr e) = absurd (false≢true (rw e at h))
+    go : (o : Outcome (Unit {0})) → shape_checked k n ≡ o → accepted o ≡ true → Shaped (Some (record { k = k; n = n }))
+    go (answered done) is h = let t = taken k n is in (t.0, t.2)
+    go (refused f) is h = absurd (false≢true h)
 
 opens : (room : ℕ) (shape : Option Dimensions) (count : ℕ) (v : View) (k n : ℕ) (o : Outcome (Unit {0})) → (accepted o ≡ true → Shaped (Some (record { k = k; n = n }))) → Stands room shape count v → Stands room (cond (accepted o) (Some (record { k = k; n = n })) shape) (cond (accepted o) 0 count) (opened k n o v)
 opens room shape count v k n (answered done) s S = record { is = ap (λ w. opened k n (answered done) w) S.is; within = omega arith; shaped = s refl }
@@ -46,6 +47,10 @@ opens room shape count v k n (refused fault) s S = S
 
 abbrev pub of_entries : Option Dimensions → ℕ → List Entry → View
 of_entries shape room es = record { shape = shape; entries = es; room = room }
+
+-- what a grow comes to
+pub grow_told : (room : ℕ) (shape : Option Dimensions) (count : ℕ) (v : View) → Stands room shape count v → grow_outcome v ≡ grow_in shape count room
+grow_told room shape count v S = ap grow_outcome S.is ∙ ap (λ c. grow_in shape c room) (length-take-le count (listing_of shape) S.within)
 
 -- a grow is refused, or there is an entry of its number in the listing
 told : (shape : Option Dimensions) (count room : ℕ) → ((f : Fault) × (grow_in shape count room ≡ refused f)) ⊎ ((grow_in shape count room ≡ answered count) × (count < length (listing_of shape)))
@@ -60,11 +65,8 @@ told (Some s) count room =
     ]
 
 pub grows : (room : ℕ) (shape : Option Dimensions) (count : ℕ) (v : View) → Stands room shape count v → Stands room shape (cond (accepted (grow_in shape count room)) (count + 1) count) (grown (grow_outcome v) v)
-grows room shape count v S = subst (λ o. Stands room shape (cond (accepted (grow_in shape count room)) (count + 1) count) (grown o v)) (sym same) (go (told shape count room))
+grows room shape count v S = subst (λ o. Stands room shape (cond (accepted (grow_in shape count room)) (count + 1) count) (grown o v)) (sym (grow_told room shape count v S)) (go (told shape count room))
   where
-    same : grow_outcome v ≡ grow_in shape count room
-    same = ap grow_outcome S.is ∙ ap (λ c. grow_in shape c room) (length-take-le count (listing_of shape) S.within)
-
     go : ((f : Fault) × (grow_in shape count room ≡ refused f)) ⊎ ((grow_in shape count room ≡ answered count) × (count < length (listing_of shape))) → Stands room shape (cond (accepted (grow_in shape count room)) (count + 1) count) (grown (grow_in shape count room) v)
     go (inl (f, e)) = rw e S
     go (inr (e, h)) =

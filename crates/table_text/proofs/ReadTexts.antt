@@ -1,6 +1,5 @@
 -- What reading the text of an entry comes to, over plain values.
 use Rattle.std.proofs.Common.{◌≡◌, ℕ, ◌<◌, ◌≤◌, List, [], length, get_or, Some, None, Ok, Err, Option, Result, sym, refl, ap, ◌∙◌, subst, inl, inr, arith}
-use native.Mathlib.Nat.{sub-zero}
 use Rattle.std.specs.Prelude.{◌≢◌}
 use Rattle.std.proofs.ByRecursion.{All-weaker}
 use Rattle.std.proofs.lemmas.Bool.{cases_order, ne_eqb, le-ltb}
@@ -8,9 +7,8 @@ use Rattle.std.proofs.lemmas.List.{length-map, get_or-map}
 use Rattle.faults.specs.declared.Fault.{Fault}
 use Rattle.faults.specs.declared.Layer.TheVariants as layer
 use Rattle.faults.specs.Faults.{found, passed}
-use Rattle.faults.specs.Outcome.{Outcome, told, checked, passed_up}
+use Rattle.faults.specs.Outcome.{Outcome, told}
 use Rattle.faults.specs.Outcome.Outcome.{answered, refused}
-use Rattle.faults.proofs.Checks.{passed as passes}
 use Rattle.lyndon.specs.declared.entry.Entry.{Entry}
 use Rattle.lyndon.specs.Codes.{Over, Listed}
 use Rattle.lyndon.specs.Listing.{OfShape}
@@ -33,7 +31,7 @@ use Rattle.bracket_table.proofs.Named.{entry_of_shape}
 use Rattle.table_text.specs.Lines.{text, text_of}
 use Rattle.table_text.specs.Reads.{entry_text, TextOutcome, ReadOutcome, ReadBack, ReadsBack}
 use Rattle.table_text.specs.Reads.TextOutcome.{no_text, foreign, unknown, known}
-use Rattle.table_text.proofs.Found.{Found, finds}
+use Rattle.bracket_table.proofs.Found.{searched, searched_answers, names}
 use Rattle.table_text.proofs.Lining.{rows_listed}
 use Rattle.table_text.proofs.Texts.{formed, texts}
 
@@ -134,43 +132,35 @@ module _ (k n : ℕ) (some : 1 ≤ k) (few : k ≤ 16) (short : n ≤ 12) (es : 
 
   -- a search for the word of a text, and the one entry that can have the text
   module _ (text w : List ℕ) (b : BracketOutcome text (answered w)) (ok : letters_checked k w ≡ answered tt) where
-    abbrev searched : Outcome (Option ℕ)
-    searched = checked (passed_up layer.Table (length_checked n (length w))) (checked (passed_up layer.Table (letters_checked k w)) (answered (found_from 0 (words k es) w)))
+    abbrev search : Outcome (Option ℕ)
+    search = searched k n es w
 
-    found_word : (i : ℕ) → answered (Some i) ≡ searched → (i < length es) × (at i ≡ w)
-    found_word i e =
-        let p = passes (passed_up layer.Table (length_checked n (length w))) (checked (passed_up layer.Table (letters_checked k w)) (answered (found_from 0 (words k es) w))) (Some i) e in
-        let q = passes (passed_up layer.Table (letters_checked k w)) (answered (found_from 0 (words k es) w)) (Some i) p.1 in
-        let is : found_from 0 (words k es) w ≡ Some i = (let r : answered (Some i) ≡ answered (found_from 0 (words k es) w) = q.1 in cc) in
-        let at_i : Found 0 (words k es) w (Some i) = rw is at (finds 0 (words k es) w) in
-        let here : i < length es = omega (arith, at_i.1, length-map es (word k)) in
-        (here, sym (get_or-map (word k) es i no_entry [] here) ∙ (rw sub-zero at at_i.2))
+    found_word : (i : ℕ) → answered (Some i) ≡ search → (i < length es) × (at i ≡ w)
+    found_word i e = names k es w (Some i) (searched_answers k n es w (Some i) e)
 
     -- where an entry has the text, the search finds its word
-    found_there : (j : ℕ) → j < length es → text ≡ entry_text k es j → (i : ℕ) × (searched ≡ answered (Some i)) × (at i ≡ w)
-    found_there j here e = go (found_from 0 (words k es) w) refl (finds 0 (words k es) w)
+    found_there : (j : ℕ) → j < length es → text ≡ entry_text k es j → (i : ℕ) × (search ≡ answered (Some i)) × (at i ≡ w)
+    found_there j here e = go (found_from 0 (words k es) w) refl
       where
         is : at j ≡ w
         is = entry_word text w j here e b
 
-        passes_all : searched ≡ answered (found_from 0 (words k es) w)
+        passes_all : search ≡ answered (found_from 0 (words k es) w)
         passes_all = let size : length_checked n (length w) ≡ answered tt = rw is at (length_passes j here) in rw (size, ok) refl
 
-        go : (o : Option ℕ) → found_from 0 (words k es) w ≡ o → Found 0 (words k es) w o → (i : ℕ) × (searched ≡ answered (Some i)) × (at i ≡ w)
-        go None q none = absurd (none j (omega (arith, here, length-map es (word k))) (get_or-map (word k) es j no_entry [] here ∙ is))
-        go (Some i) q has =
-            let s = passes_all ∙ ap answered q in
-            (i, s, (found_word i (sym s)).1)
+        go : (o : Option ℕ) → o ≡ found_from 0 (words k es) w → (i : ℕ) × (search ≡ answered (Some i)) × (at i ≡ w)
+        go None q = absurd (names k es w None q j here is)
+        go (Some i) q = (i, passes_all ∙ ap answered (sym q), (names k es w (Some i) q).1)
 
     -- and so no entry has a text that the entry found has not
-    none_found : (r : Result (Option ℕ) TableFault) → told (λ i. i) table_fault r ≡ searched → ((i : ℕ) → r ≡ Ok (Some i) → text ≢ entry_text k es i) → (j : ℕ) → j < length es → text ≢ entry_text k es j
+    none_found : (r : Result (Option ℕ) TableFault) → told (λ i. i) table_fault r ≡ search → ((i : ℕ) → r ≡ Ok (Some i) → text ≢ entry_text k es i) → (j : ℕ) → j < length es → text ≢ entry_text k es j
     none_found r found own j here e =
         go r found own
       where
-        f : (i : ℕ) × (searched ≡ answered (Some i)) × (at i ≡ w)
+        f : (i : ℕ) × (search ≡ answered (Some i)) × (at i ≡ w)
         f = found_there j here e
 
-        go : (r : Result (Option ℕ) TableFault) → told (λ i. i) table_fault r ≡ searched → ((i : ℕ) → r ≡ Ok (Some i) → text ≢ entry_text k es i) → ⊥
+        go : (r : Result (Option ℕ) TableFault) → told (λ i. i) table_fault r ≡ search → ((i : ℕ) → r ≡ Ok (Some i) → text ≢ entry_text k es i) → ⊥
         go (Err x) q h = clash (Some f.0) (table_fault x) (sym (q ∙ f.1))
         go (Ok None) q h = (let z : answered None ≡ answered (Some f.0) = q ∙ f.1 in absurd (cc))
         go (Ok (Some i)) q h =
