@@ -22,7 +22,7 @@ pub struct Growth {
     pub complete: u8,
 }
 
-/// How far a table is grown, for a user whose sheets are over this ring.
+/// How far a table is grown. The ring is the one over which `law` speaks of sheets; the answer does not depend on it.
 #[tactic(auto, using(crate::proofs::Law::every_list, crate::proofs::Law::counted, crate::proofs::Reached::reached))]
 pub fn audit<R: Ring>(table: &mut Table) -> Result<Growth, TableFault>
     ensures outcome { told (λ g. g.entries) table_fault result ≡ count_outcome (view table.old) }
