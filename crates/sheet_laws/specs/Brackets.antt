@@ -20,7 +20,8 @@ module _ {A : Type 0} (ring : Operations A) (k m : ℕ) where
   multiples (x ∷ xs) [] u = ring.zero
   multiples [] es u = ring.zero
 
-  -- the sheet of length m is a sum of multiples of the brackets of those of the entries that have m letters
+  -- the sheet of length m is a sum of multiples of the brackets of those of the entries that have m letters; where none
+  -- has, it has zeros only
   unfoldable pub SumOfBrackets : List Entry → List A → Type 0
   SumOfBrackets es sheet =
       (values : List A) × (length values ≡ length (of_length m es)) × (sheet ≡ sheet_of k m (multiples values (of_length m es)))
