@@ -147,7 +147,7 @@ rising_of (Some x) es listed = in_order (Some x) x refl es listed
 rising_of None [] listed = tt
 rising_of None (e ∷ es) listed = absurd (omega (arith, ap length listed, length-take (suc (length es)) (entries_in None)))
 
-few_of : (s : Option Cursor) (es : List Entry) → es ≡ take (length es) (entries_in s) → length es ≤ 1496
+pub few_of : (s : Option Cursor) (es : List Entry) → es ≡ take (length es) (entries_in s) → length es ≤ 1496
 few_of (Some x) es listed = few (Some x) x refl es listed
 few_of None es listed = omega (arith, ap length listed, length-take (length es) (entries_in None))
 

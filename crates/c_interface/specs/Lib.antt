@@ -1,1 +1,3 @@
-pub mod Shown
+pub mod Answers
+pub mod Tables
+pub mod Calls

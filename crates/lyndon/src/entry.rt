@@ -2,6 +2,8 @@
 
 /// A Lyndon word, with the numbers of the two entries of its split.
 // numbers, and no boxes or options: whoever takes the list calls its routines by these numbers, and the rules give a letter 65,535
+// laid out as in C, so that programs in C can lend memory for entries
+#[repr(C)]
 #[derive(Clone, Copy, PartialEq, Eq, Default, Debug)]
 pub struct Entry {
     /// How many letters the word has.

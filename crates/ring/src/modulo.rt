@@ -2,6 +2,8 @@
 ghost use Rattle.std.specs.Prelude.{◌<◌, ◌^◌};
 
 /// A whole number modulo 2^64.
+// laid out as in C, where it is a `uint64_t`
+#[repr(C)]
 #[derive(Clone, Copy, PartialEq, Eq, Debug)]
 pub struct Mod64 {
     pub value: u64,

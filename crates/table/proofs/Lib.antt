@@ -1,4 +1,3 @@
 mod Sizes
-mod Shown
 mod Reports
 mod Counted

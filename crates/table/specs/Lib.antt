@@ -1,3 +1,2 @@
 pub mod Printed
-pub mod Seen
 pub mod OneLine

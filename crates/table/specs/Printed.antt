@@ -1,18 +1,12 @@
 -- What the program prints.
-use Rattle.std.specs.Prelude.{◌≡◌, ℕ, ◌+◌, List, [], ◌∷◌, ◌++◌, length}
-use Rattle.lyndon.specs.declared.entry.Entry.{Entry}
+use Rattle.std.specs.Prelude.{◌≡◌, ℕ, List, [], ◌∷◌, ◌++◌, length}
 use Rattle.lyndon.specs.Entries.{listing}
 use Rattle.text.specs.Lines.{fault_line, header_line}
 use Rattle.text.specs.Reading.{Stops}
 use Rattle.input_text.specs.Shapes.{IsShape}
-use Rattle.table_text.specs.Lines.{line_of_entry}
+use Rattle.table_lines.specs.Lines.{entry_lines}
 use Rattle.bracket_table.specs.Views.{shape_checked}
 use Rattle.console.specs.Reports.{OutcomePrints}
-
--- the lines of entries over k letters, numbered from i on
-abbrev pub entry_lines : ℕ → ℕ → List Entry → List ℕ
-entry_lines k i [] = []
-entry_lines k i (e ∷ es) = line_of_entry k i e ++ entry_lines k (i + 1) es
 
 -- the shape k, n and how many Lyndon words it has, and then each with its split, in listing order
 abbrev pub printed_table : ℕ → ℕ → List ℕ

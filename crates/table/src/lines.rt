@@ -6,7 +6,7 @@ ghost use Rattle.bracket_table.specs.Calls.{opened};
 ghost use Rattle.bracket_table.specs.Seen.{view};
 ghost use Rattle.bracket_table.specs.Views.{fresh};
 ghost use Rattle.table.specs.Printed.{printed_table};
-ghost use Rattle.table.specs.Seen.{line_in, lines_in};
+ghost use Rattle.table_lines.specs.Lines.{line_in, lines_in};
 
 use bracket_table::Table;
 use grown_table::grow_all;
@@ -65,7 +65,7 @@ fn push_entries(lines: &mut Vec<u8>, table: &mut Table) -> Result<(), AllocError
 }
 
 /// Puts the line of an entry behind others.
-#[tactic(auto, using(crate::proofs::Shown::entry_answered, crate::proofs::Shown::entry_in_front))]
+#[tactic(auto, using(table_lines::proofs::Shown::entry_answered, table_lines::proofs::Shown::entry_in_front))]
 fn push_line(lines: &mut Vec<u8>, table: &mut Table, number: usize) -> Result<(), AllocError>
     requires { number < length (view table.old).entries }
     ensures lines { OnOk result (lines.new.items ≡ lines.old.items ++ line_in (view table.old) number) }

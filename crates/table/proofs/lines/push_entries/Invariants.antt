@@ -1,7 +1,6 @@
 use Rattle.std.proofs.Common.{◌≡◌, ◌++◌, drop, vec_items}
 use Rattle.bracket_table.specs.Seen.{view}
-use Rattle.table.specs.Printed.{entry_lines}
-use Rattle.table.specs.Seen.{letters_in, lines_in}
+use Rattle.table_lines.specs.Lines.{entry_lines, letters_in, lines_in}
 use Rattle.table.proofs.lines.push_entries.Given as goal
 
 -- the lines that there are, and those of the entries that are left; the table stays as it is

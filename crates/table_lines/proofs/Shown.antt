@@ -1,12 +1,14 @@
 -- The lines of the entries of a table.
-use Rattle.std.proofs.Common.{◌≡◌, ℕ, ◌<◌, ◌≤◌, List, [], length, get_or, take, Some, None, Option, Ok, Err, Result, IsOk, sym, refl, ap, ◌∙◌, subst, arith}
+use Rattle.std.proofs.Common.{◌≡◌, ℕ, ◌<◌, ◌≤◌, ltb, List, [], length, get_or, take, Some, None, Option, Ok, Err, Result, IsOk, sym, refl, ap, ◌∙◌, subst, arith}
 use Rattle.std.proofs.ByRecursion.{All-get_or}
 use Rattle.std.proofs.lemmas.List.{get_or-map, length-map, length-take}
 use Rattle.faults.specs.declared.Fault.{Fault}
 use Rattle.faults.specs.declared.Layer.{Layer}
 use Rattle.faults.specs.declared.Layer.TheVariants as layer
+use Rattle.faults.specs.Faults.{found}
 use Rattle.faults.specs.Outcome.{Outcome, passed_up, told}
 use Rattle.faults.specs.Outcome.Outcome.{answered, refused}
+use Rattle.faults.proofs.Checks.{answered_by}
 use Rattle.lyndon.specs.declared.entry.Entry.{Entry}
 use Rattle.lyndon.specs.Entries.{listing, no_entry, word, words}
 use Rattle.lyndon.specs.Listing.{OfShape}
@@ -16,15 +18,15 @@ use Rattle.text.proofs.Written.{line_fits, line_stands}
 use Rattle.coded_word.specs.declared.coded.Cursor.{Cursor}
 use Rattle.bracket_table.specs.Held.{entries_in}
 use Rattle.table_text.specs.Lines.{line_of_entry, line_left, line_outcome}
-use Rattle.bracket_table.proofs.Growing.{few, sound}
+use Rattle.bracket_table.proofs.Growing.{few, few_of, sound}
 use Rattle.bracket_table.specs.Seen.{dimensions, view}
 use Rattle.bracket_table.specs.Faults.{table_fault}
 use Rattle.bracket_table.specs.declared.Table.{Table}
 use Rattle.bracket_table.specs.declared.fault.TableFault.{TableFault}
 use Rattle.bracket_table.specs.Views.{View}
 use Rattle.table_text.proofs.Lining.{left_there, line_at}
-use Rattle.table.specs.Seen.{line_in}
-use Rattle.table.proofs.Sizes.{entry_line_size}
+use Rattle.table_lines.specs.Lines.{line_in}
+use Rattle.table_lines.proofs.Sizes.{entry_line_size}
 
 -- ---- the line of one entry
 
@@ -79,6 +81,14 @@ line_written (Some x) es room listed i here buffer long size after told is =
     let l = line_stands (line x es room listed i here) buffer after size t (is ∙ left_of x es room listed i here buffer) in
     (l.0, omega (arith, l.1))
 
+line_measured : (s : Option Cursor) (es : List Entry) (room : ℕ) → es ≡ take (length es) (entries_in s) → (i : ℕ) → i < length es → (buffer : List ℕ) → length buffer ≡ 74 → (size : ℕ) → answered size ≡ line_outcome (seen s es room) i buffer → (size ≡ length (line_in (seen s es room) i)) × (size ≤ 74)
+line_measured None es room listed i here buffer long size told = absurd (none_listed es i listed here)
+line_measured (Some x) es room listed i here buffer long size told =
+    let bytes = line x es room listed i here in
+    let t = passed_answer layer.Table size (written bytes buffer) (told ∙ told_of x es room listed i here buffer) in
+    let m = answered_by (ltb (length buffer) (length bytes)) (found 7 layer.Text 0 0) size (length bytes) t in
+    (m.1, omega (arith, m.1, line_short x es room listed i here))
+
 -- the line of an entry of a table
 pub entry_answered : (t : Table) (i : ℕ) (buffer : List ℕ) (r : Result ℕ TableFault) → i < length (view t).entries → length buffer ≡ 74 → told (λ n. n) table_fault r ≡ line_outcome (view t) i buffer → IsOk r
 entry_answered t i buffer (Ok n) here long is = refl
@@ -88,3 +98,11 @@ entry_answered t i buffer (Err e) here long is =
 pub entry_in_front : (t : Table) (i : ℕ) (buffer after : List ℕ) (r : Result ℕ TableFault) (n : ℕ) → i < length (view t).entries → length buffer ≡ 74 → told (λ n. n) table_fault r ≡ line_outcome (view t) i buffer → r ≡ Ok n → after ≡ line_left (view t) i buffer → (take n after ≡ line_in (view t) i) × (n ≤ 74)
 entry_in_front t i buffer after r n here long is e stands =
     line_written t.next (view t).entries (view t).room t.listed i here buffer long n after (subst (λ x. told (λ n. n) table_fault x ≡ line_outcome (view t) i buffer) e is) stands
+
+pub entry_measured : (t : Table) (i : ℕ) (buffer : List ℕ) (r : Result ℕ TableFault) (n : ℕ) → i < length (view t).entries → length buffer ≡ 74 → told (λ n. n) table_fault r ≡ line_outcome (view t) i buffer → r ≡ Ok n → (n ≡ length (line_in (view t) i)) × (n ≤ 74)
+entry_measured t i buffer r n here long is e =
+    line_measured t.next (view t).entries (view t).room t.listed i here buffer long n (subst (λ x. told (λ n. n) table_fault x ≡ line_outcome (view t) i buffer) e is)
+
+-- no table has many
+pub few_entries : (t : Table) → length (view t).entries ≤ 1496
+few_entries t = few_of t.next (view t).entries t.listed
