@@ -6,7 +6,7 @@
  *
  * A call on a table takes k, n and `grows`, and works on the table that they make: open k n, and then grow so many
  * times. So it has the first `grows` Lyndon words of at most n letters, numbered from 0. Nothing is kept between calls,
- * and the table lies in memory of the call's own (12 KB of stack; calls on sheets take 16 KB more), so that nothing
+ * and the table lies in memory of the call's own (about 14 KB of stack; expand, into and back take 33 KB), so that nothing
  * rests on what a caller hands back. `lyndon_entries` answers how many Lyndon words there are.
  *
  * Each call answers a fault whose number is 0 where it was accepted. Where it is refused, nothing that was lent is

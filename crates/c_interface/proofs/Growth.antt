@@ -1,5 +1,5 @@
 -- Tables that are opened and grown so many times.
-use Rattle.std.proofs.Common.{◌≡◌, ℕ, zero, suc, ◌+◌, ◌-◌, ◌<◌, ◌≤◌, Bool, true, false, cond, ltb, List, length, take, Some, None, Option, refl, sym, ap, ◌∙◌, subst, inl, inr, arith}
+use Rattle.std.proofs.Common.{◌≡◌, ℕ, zero, suc, ◌+◌, ◌-◌, ◌<◌, ◌≤◌, Bool, true, false, cond, ltb, List, length, Some, Option, refl, sym, ap, ◌∙◌, subst, inl, inr, arith}
 use Rattle.std.proofs.lemmas.Bool.{cases_lt, le-leb, lt-leb, lt-ltb, le-ltb}
 use Rattle.std.proofs.lemmas.Bool.Decides.{nat_tests}
 use Rattle.std.proofs.lemmas.List.{take_all}
@@ -39,16 +39,16 @@ module _ (k n : ℕ) (some : 1 ≤ k) (deep : n ≤ 12) (few : length (listing k
       elim (cases_lt count (length (listing k n))) [
         | inl h ↦
             let one : grow_in shape count 1496 ≡ answered count =
-                rw (lt-leb (length (listing k n)) count h, lt-leb 1496 count (omega (arith, h, few))) refl in
+            rw (lt-leb (length (listing k n)) count h, lt-leb 1496 count (omega (arith, h, few))) refl in
             let told : grow_outcome v ≡ answered count = grow_told 1496 shape count v S ∙ one in
             let more : Stands 1496 shape (count + 1) (grown (answered count) v) =
-                subst (λ o. Stands 1496 shape (count + 1) (grown o v)) told
-                (subst (λ o. Stands 1496 shape (cond (accepted o) (count + 1) count) (grown (grow_outcome v) v)) one (grows 1496 shape count v S)) in
+            subst (λ o. Stands 1496 shape (count + 1) (grown o v)) told
+            (subst (λ o. Stands 1496 shape (cond (accepted o) (count + 1) count) (grown (grow_outcome v) v)) one (grows 1496 shape count v S)) in
             let next : (count + 1) + left ≡ count + suc left = omega arith in
             ap (λ o. next_grow o (grown_by left) v) told ∙ grown_on left (count + 1) (grown (answered count) v) more ∙ ap reached next
         | inr h ↦
             let none : grow_outcome v ≡ refused (found 9 layer.Table 0 0) =
-                grow_told 1496 shape count v S ∙ rw (le-leb (length (listing k n)) count h) refl in
+            grow_told 1496 shape count v S ∙ rw (le-leb (length (listing k n)) count h) refl in
             ap (λ o. next_grow o (grown_by left) v) none ∙ rw (lt-ltb (length (listing k n)) (count + suc left) (omega (arith, h))) refl
       ]
 

@@ -1,5 +1,5 @@
 -- What the calls of this library come to, each on the table of k, n and so many grows.
-use Rattle.std.specs.Prelude.{ℕ, ◌≡◌, List, length, Option, nat_lt}
+use Rattle.std.specs.Prelude.{ℕ, ◌≡◌, List, length, nat_lt}
 use Rattle.std.specs.List.{slice_get}
 use Rattle.faults.specs.declared.Layer.TheVariants as layer
 use Rattle.faults.specs.Faults.{found}
@@ -12,7 +12,7 @@ use Rattle.lyndon.specs.Entries.{listing}
 use Rattle.ring.specs.declared.modulo.Mod64.{Mod64}
 use Rattle.ring.specs.Modulo.{ring_64}
 use Rattle.word.specs.Calls.{factor_outcome, starts_of}
-use Rattle.text.specs.Lines.{written, left}
+use Rattle.text.specs.Lines.{written}
 use Rattle.bracket_table.specs.Calls.{look_outcome, find_outcome}
 use Rattle.bracket_table.specs.Views.{shape_checked}
 use Rattle.table_text.specs.Lines.{line_outcome, line_left}

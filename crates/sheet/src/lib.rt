@@ -25,7 +25,7 @@ mod tests {
     use super::*;
     use bracket_table::Table;
     use lyndon::Entry;
-    use ring::{Mod64, Ring};
+    use ring::{Mod16, Mod64, Ring};
 
     /// P of 00101 over two letters, as another program has it.
     const POLYNOMIAL: [i16; 32] = [
@@ -119,6 +119,16 @@ mod tests {
                 &mut [zero; 32]
             )
         );
+        let zero = Mod16::zero();
+        assert!(rt;
+            is_written(
+                &mut table,
+                &mut [zero; 32],
+                &mut [zero; 8],
+                &mut [zero; 4],
+                &mut [zero; 32]
+            )
+        );
         assert!(rt;
             is_written(
                 &mut table,
@@ -135,8 +145,10 @@ mod tests {
         let mut memory = [Entry::default(); 14];
         let mut table = grown(&mut memory);
         assert!(rt; is_converted(&mut table, &mut [Mod64::zero(); 32]));
+        assert!(rt; is_converted(&mut table, &mut [Mod16::zero(); 32]));
         assert!(rt; is_converted(&mut table, &mut [false; 32]));
         assert!(rt; is_told_apart(&mut table, &mut [Mod64::zero(); 32]));
+        assert!(rt; is_told_apart(&mut table, &mut [Mod16::zero(); 32]));
         assert!(rt; is_told_apart(&mut table, &mut [false; 32]));
     }
 

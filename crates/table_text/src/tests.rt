@@ -1,4 +1,4 @@
-//! Texts that are read, with what another program makes of them: `reference/reference.py`, which `tests/compare` runs.
+//! Texts that are read, with what another program makes of them: that in `reference/`, which `tests/compare` runs.
 
 use super::*;
 use faults::Fault;
