@@ -1,114 +1,86 @@
-//! Factoring words: the proved library beside a Rust program for the same job, in one process.
-//! Run by bench/run.
-use std::hint::black_box;
-use std::time::Instant;
+//! The factors of a word: the baseline, and the words that are factored.
 
-unsafe extern "C" {
-    fn lyndon_factor(word: *const u8, letters: usize, starts: *mut u16, size: usize, fault: *mut u8) -> usize;
-}
+use crate::calls::Outcome;
+use crate::numbers::Numbers;
 
-/// The proved call.
-fn proved(word: &[u8], starts: &mut [u16]) -> Result<usize, u8> {
-    let mut fault = 0;
-    // SAFETY: both slices are valid for their lengths, and the call asks nothing else
-    let count = unsafe { lyndon_factor(word.as_ptr(), word.len(), starts.as_mut_ptr(), starts.len(), &mut fault) };
-    if fault == 0 { Ok(count) } else { Err(fault) }
-}
-
-/// The period of the factor that begins at `from`, and the place behind its repeats.
-fn run(word: &[u8], from: usize) -> (usize, usize) {
-    let (mut read, mut back) = (from + 1, from);
-    while read < word.len() && word[back] <= word[read] {
-        if word[back] < word[read] {
-            back = from;
-        } else {
-            back += 1;
-        }
-        read += 1;
-    }
-    let period = read - back;
-    (period, from + (read - from) / period * period)
-}
-
-/// The same job in Rust, with the same refusals.
-fn plain(word: &[u8], starts: &mut [u16]) -> Result<usize, u8> {
+/// The starts of the factors of a word: one pass of Duval's algorithm.
+pub fn factor(word: &[u8], starts: &mut [u16]) -> Outcome {
     if word.len() > 65_535 {
         return Err(17);
     }
-    if starts.len() < word.len() {
-        let (mut from, mut count) = (0, 0);
-        while from < word.len() {
-            let (period, end) = run(word, from);
-            count += (end - from) / period;
-            from = end;
-        }
-        if starts.len() < count {
-            return Err(6);
-        }
+    // a word has no more factors than letters: only for a shorter list are they counted first
+    if starts.len() < word.len() && runs(word).map(|run| run.letters / run.period).sum::<usize>() > starts.len() {
+        return Err(6);
     }
-    let (mut from, mut count) = (0, 0);
-    while from < word.len() {
-        let (period, end) = run(word, from);
-        while from < end {
-            starts[count] = from as u16;
+    let mut count = 0;
+    for run in runs(word) {
+        for start in (run.start..run.start + run.letters).step_by(run.period) {
+            starts[count] = start as u16;
             count += 1;
-            from += period;
         }
     }
     Ok(count)
 }
 
-/// The shortest of many runs, in microseconds.
-fn shortest(job: fn(&[u8], &mut [u16]) -> Result<usize, u8>, word: &[u8], starts: &mut [u16]) -> f64 {
-    let mut best = f64::MAX;
-    for _ in 0..200 {
-        let begun = Instant::now();
-        let answer = black_box(job(black_box(word), black_box(starts)));
-        best = best.min(begun.elapsed().as_secs_f64() * 1e6);
-        let _ = black_box(answer);
-    }
-    best
+/// Equal factors in a row.
+struct Run {
+    start: usize,
+    letters: usize,
+    /// The letters of one of them.
+    period: usize,
 }
 
-fn numbers(letters: usize, below: u64) -> Vec<u8> {
-    let mut state = 0x9e37_79b9_7f4a_7c15_u64;
-    let mut next = || {
-        state ^= state << 13;
-        state ^= state >> 7;
-        state ^= state << 17;
-        (state % below) as u8
-    };
-    (0..letters).map(|_| next()).collect()
+/// The runs of equal factors of a word.
+fn runs(word: &[u8]) -> impl Iterator<Item = Run> {
+    let mut start = 0;
+    std::iter::from_fn(move || {
+        let rest = &word[start..];
+        if rest.is_empty() {
+            return None;
+        }
+        let (read, period) = leading_run(rest);
+        let run = Run { start, letters: read / period * period, period };
+        start += run.letters;
+        Some(run)
+    })
 }
 
-fn main() {
-    let full = 65_535;
-    let mut fibonacci = vec![0, 1];
-    let mut before = vec![0];
-    while fibonacci.len() < full {
-        let next = [fibonacci.clone(), before].concat();
-        before = std::mem::replace(&mut fibonacci, next);
-    }
-    fibonacci.truncate(full);
-    let words = [
-        ("equal letters", vec![7; full]),
-        ("random, 2 letters", numbers(full, 2)),
-        ("random, 256 letters", numbers(full, 256)),
-        ("falling by runs", (0..full).map(|i| (255 - i / 257) as u8).collect()),
-        ("rising by runs", (0..full).map(|i| (i / 257) as u8).collect()),
-        ("Fibonacci word", fibonacci),
-    ];
-    println!("{:<22}{:>9}{:>12}{:>12}{:>8}", "65,535 letters", "factors", "proved us", "Rust us", "ratio");
-    for (name, word) in &words {
-        for size in [full, full - 1] {
-            let (mut a, mut b) = (vec![0xffff; size], vec![0xffff; size]);
-            let (x, y) = (proved(word, &mut a), plain(word, &mut b));
-            assert_eq!((x, &a), (y, &b), "{name}");
-            let ours = shortest(proved, word, &mut a);
-            let theirs = shortest(plain, word, &mut b);
-            let note = if size == full { "" } else { " (short list)" };
-            let factors = x.map_or(0, |count| count);
-            println!("{:<22}{:>9}{:>12.1}{:>12.1}{:>8.2}", format!("{name}{note}"), factors, ours, theirs, ours / theirs);
+/// How many letters repeat the first factor, the last time perhaps not to its end, and how many it has.
+fn leading_run(word: &[u8]) -> (usize, usize) {
+    let mut period = 1;
+    for (read, letter) in word.iter().enumerate().skip(1) {
+        let back = &word[read - period];
+        if letter < back {
+            return (read, period);
+        }
+        if letter > back {
+            period = read + 1;
         }
     }
+    (word.len(), period)
+}
+
+/// The words that are factored, with their names.
+pub fn words(letters: usize) -> [(&'static str, Vec<u8>); 7] {
+    let mut numbers = Numbers::new();
+    [
+        ("random, 2 letters", (0..letters).map(|_| numbers.below(2) as u8).collect()),
+        ("random, 256 letters", (0..letters).map(|_| numbers.below(256) as u8).collect()),
+        ("all equal", vec![7; letters]),
+        ("01 repeated", (0..letters).map(|i| (i % 2) as u8).collect()),
+        ("Fibonacci word", fibonacci(letters)),
+        ("rising by runs", (0..letters).map(|i| (i / 257) as u8).collect()),
+        ("falling by runs", (0..letters).map(|i| (255 - i / 257) as u8).collect()),
+    ]
+}
+
+/// The front of the word that begins with 01 and goes on, again and again, as it stood one step before.
+fn fibonacci(letters: usize) -> Vec<u8> {
+    let (mut word, mut before) = (vec![0, 1], vec![0]);
+    while word.len() < letters {
+        let next = [&word[..], &before].concat();
+        before = std::mem::replace(&mut word, next);
+    }
+    word.truncate(letters);
+    word
 }
