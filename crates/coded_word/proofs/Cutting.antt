@@ -1,13 +1,11 @@
 -- A word cut in two, by quotient and remainder of its code.
-use Rattle.std.proofs.Common.{◌≡◌, ℕ, ◌+◌, ◌-◌, ◌/◌, ◌%◌, ◌^◌, ◌<◌, ◌≤◌, ◌⊎◌, Bool, true, false, MatchBool, Some, None, Option, MatchOption, length, get_or, take, drop, inl, inr, sym, ap, ◌∙◌, arith}
-use Rattle.std.specs.List.{HoldsAt, AllWithin, range_with_len}
+use Rattle.std.proofs.Common.{◌≡◌, ℕ, ◌-◌, ◌/◌, ◌%◌, ◌^◌, ◌<◌, ◌≤◌, ◌⊎◌, Bool, true, false, Some, None, Option, MatchOption, length, take, drop, inl, inr, sym, ap, ◌∙◌, arith}
 use Rattle.std.proofs.lemmas.Bool.{both_ways, cases_lt}
-use Rattle.std.proofs.lemmas.List.FromFn.{length-range_with_len, get_or-range_with_len}
 use Rattle.lyndon.specs.Codes.{code, spelled}
 use Rattle.lyndon.specs.Entries.{cut}
 use Rattle.lyndon.specs.Listing.{lyndon}
 use Rattle.lyndon.proofs.Codes.{code_below, cut_splits, cut_within, length-spelled, over-drop, over-take, says_lyndon, spelled-code, spelled-over}
-use Rattle.lyndon.proofs.Digits.{cut_first, prefix_code, prefix_size, suffix_code, suffix_size, lyndon_by_digits, not_lyndon_by_digits}
+use Rattle.lyndon.proofs.Digits.{cut_first, prefix_code, prefix_size, suffix_code, suffix_size}
 use Rattle.coded_word.specs.Codes.{Codes}
 
 module _ (k m c : ℕ) (some : 1 ≤ k) (coded : c < k ^ m) where
@@ -33,34 +31,6 @@ module _ (k m c : ℕ) (some : 1 ≤ k) (coded : c < k ^ m) where
       ∙ ap (λ z. spelled k z c') codes.0
       ∙ ap (spelled k (length (drop i (spelled k m c)))) codes.1
       ∙ spelled-code k (drop i (spelled k m c)) some (over-drop k i (spelled k m c) (spelled-over k m c some coded)))
-
-  -- a front, and the back of the same length
-  front : (i : ℕ) → i < m → code k (take (m - i) (spelled k m c)) ≡ c / k ^ i
-  front i l =
-      let e : m - (m - i) ≡ i = omega arith in
-      prefix_code k m c some coded (m - i) (omega arith) ∙ ap (λ z. c / k ^ z) e
-
-  back : (i : ℕ) → i < m → code k (drop i (spelled k m c)) ≡ c % k ^ (m - i)
-  back i l = suffix_code k m c some coded i (omega arith)
-
-  abbrev pub Leads : ℕ → Type 0
-  Leads i = code k (take (m - i) (spelled k m c)) < code k (drop i (spelled k m c))
-
-  abbrev pub Trails : ℕ → Type 0
-  Trails i = code k (drop i (spelled k m c)) ≤ code k (take (m - i) (spelled k m c))
-
-  -- a Lyndon word leads each of its proper suffixes
-  pub lyndon_by_fronts : 1 ≤ m → (r : Bool) → MatchBool r (AllWithin Leads (range_with_len 1 (m - 1)) 0 (length (range_with_len 1 (m - 1)))) ((j : ℕ) × (j < length (range_with_len 1 (m - 1))) × HoldsAt Trails (range_with_len 1 (m - 1)) j) → r ≡ lyndon (spelled k m c)
-  lyndon_by_fronts one true all =
-      lyndon_by_digits k m c some coded one (λ i p l.
-      let e : 1 + (i - 1) ≡ i = omega arith in
-      let a : Leads (get_or (range_with_len 1 (m - 1)) (i - 1) 0) = all (i - 1) 0 (omega arith) (omega (arith, length-range_with_len 1 (m - 1))) in
-      let b : Leads i = rw (get_or-range_with_len 1 (m - 1) (i - 1) 0 (omega arith), e) at a in
-      rw (front i l, back i l) at b)
-  lyndon_by_fronts one false (j, l, trails) =
-      let s : j < m - 1 = omega (arith, length-range_with_len 1 (m - 1)) in
-      let b : Trails (1 + j) = rw (get_or-range_with_len 1 (m - 1) j 0 s) at (trails 0) in
-      not_lyndon_by_digits k m c some coded (1 + j) (omega arith) (omega arith) (rw (front (1 + j) (omega arith), back (1 + j) (omega arith)) at b)
 
   -- the first proper suffix that is Lyndon is where the split cuts
   pub cut_found : 1 ≤ m → (r : Option ℕ) → MatchOption r ((i : ℕ) → 1 ≤ i → i < m → false ≡ lyndon (drop i (spelled k m c))) (λ i. (1 ≤ i) × (i < m) × (true ≡ lyndon (drop i (spelled k m c))) × ((j : ℕ) → 1 ≤ j → j < i → false ≡ lyndon (drop j (spelled k m c)))) → MatchOption r (m ≡ 1) (λ i. (0 < i) × (i < m) × (i ≡ cut (spelled k m c)))

@@ -2,3 +2,5 @@ pub mod Bounds
 mod Spelling
 pub mod Passed
 mod Cutting
+mod Shifted
+mod Scanning

@@ -1,8 +1,8 @@
 //! Words by their codes, and the scan through the Lyndon words of a shape.
-ghost use Rattle.std.specs.Prelude.{◌≡◌, ℕ, ◌+◌, ◌^◌, ◌<◌, ◌≤◌, length, take, drop, Some, MatchOption, IfOk};
+ghost use Rattle.std.specs.Prelude.{◌≡◌, ℕ, ◌+◌, ◌^◌, ◌<◌, ◌≤◌, true, [], length, take, drop, Some, MatchOption, IfOk};
 ghost use Rattle.faults.specs.Outcome.{told};
 ghost use Rattle.lyndon.specs.Entries.{cut};
-ghost use Rattle.lyndon.specs.Listing.{lyndon};
+ghost use Rattle.lyndon.specs.Listing.{lyndon, codes};
 ghost use Rattle.word.specs.Faults.{word_fault};
 ghost use Rattle.coded_word.specs.Codes.{read_outcome};
 
@@ -66,10 +66,11 @@ impl CodedWord {
     }
 
     /// Whether it is a Lyndon word.
+    #[tactic(auto, using(crate::proofs::Scanning::lyndon_by_passed))]
     pub fn is_lyndon(self) -> bool
         ensures { result ≡ lyndon (word_of self) }
     {
-        self.is_before_suffixes()
+        self.count_passed(self.shape.count_words(self.length)) == 0
     }
 
     /// It cut before its longest proper suffix that is Lyndon, or none for a single letter.
@@ -122,11 +123,25 @@ impl CodedWord {
         }
     }
 
-    /// Whether it is before each of its proper suffixes: the front of the same length has the lower code.
-    fn is_before_suffixes(self) -> bool
-        ensures { result ≡ lyndon (word_of self) }
+    /// How many codes from its own on its first suffix that is not behind it shows to be of no Lyndon words; 0 if it is one.
+    // each suffix is filled up with zeros to the length of the word, and so are compared two codes
+    #[tactic(auto, using(crate::proofs::Scanning::led_start, crate::proofs::Scanning::led_next, crate::proofs::Scanning::led_lyndon, crate::proofs::Scanning::none_passed, crate::proofs::Scanning::led_passed, crate::proofs::Scanning::led_within))]
+    fn count_passed(self, words: u16) -> u16
+        requires value { words ≡ self.shape.k ^ self.length }
+        requires few { words ≤ 4096 }
+        ensures none { result ≡ 0 → true ≡ lyndon (word_of self) }
+        ensures passed { codes self.shape.k self.length self.code result ≡ [] }
+        ensures within { self.code + result ≤ words }
     {
-        (1..self.length).all(|i| self.cut_at(self.length - i).left.code < self.cut_at(i).right.code)
+        let k = u16::from(self.shape.k);
+        let mut shifted = self.code;
+        for i in 1..self.length {
+            shifted = shifted * k % words;
+            if shifted <= self.code {
+                return (self.code - shifted) / self.shape.count_words(i) + 1;
+            }
+        }
+        0
     }
 
     /// How many letters stand before its longest proper suffix that is Lyndon, or none for a single letter.
@@ -208,19 +223,23 @@ impl Cursor {
     }
 
     /// The first Lyndon word from here on that is no longer, or none.
-    #[tactic(auto, using(lyndon::proofs::Keys::rest_found, lyndon::proofs::Keys::rest_passed))]
+    #[tactic(auto, using(lyndon::proofs::Keys::rest_found, crate::proofs::Scanning::rest_behind))]
     fn scan_length(self) -> Option<CodedWord>
         ensures { MatchOption result (left_from self ≡ left_behind self) (λ w. FirstFrom self (Some w)) }
     {
-        for code in self.code..self.shape.count_words(self.length) {
+        let words = self.shape.count_words(self.length);
+        let mut code = self.code;
+        while code < words {
             let word = CodedWord {
                 shape: self.shape,
                 length: self.length,
                 code,
             };
-            if word.is_lyndon() {
+            let passed = word.count_passed(words);
+            if passed == 0 {
                 return Some(word);
             }
+            code += passed;
         }
         None
     }
