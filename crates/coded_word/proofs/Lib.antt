@@ -4,3 +4,4 @@ pub mod Passed
 mod Cutting
 mod Shifted
 mod Scanning
+mod Least

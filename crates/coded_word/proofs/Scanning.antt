@@ -44,7 +44,8 @@ lyndon_by_passed k m c (suc r) y none = ne_eqb (suc r) 0 (λ q. omega arith) ∙
 -- ---- the loop that tries the suffixes of a word
 
 module _ (k m c : ℕ) (some : 1 ≤ k) (coded : c < k ^ m) where
-  -- the first suffix that is not behind the word, and the codes that it shows to be of no Lyndon words
+  -- a suffix that is not behind the word shows more codes to be of no Lyndon words: d codes further the suffix is d more, and
+  -- the front of its length no less, while what stands before the suffix is the same
   passed : (i d : ℕ) → 0 < i → i < m → shifted k m c i ≤ c → d ≤ (c - shifted k m c i) / k ^ i → (c + d < k ^ m) × (false ≡ lyndon (spelled k m (c + d)))
   passed i d p l h t =
       let S = c % k ^ (m - i) in

@@ -7,7 +7,7 @@ use Rattle.std.proofs.lemmas.Nat.{mul-mod_first}
 use Rattle.lyndon.specs.Codes.{spelled}
 use Rattle.lyndon.specs.Listing.{lyndon}
 use Rattle.lyndon.proofs.Digits.{lyndon_by_digits, not_lyndon_by_digits}
-use Rattle.coded_word.proofs.Cutting.{back_codes, back_lyndon}
+use Rattle.coded_word.proofs.Cutting.{back_spelled}
 
 -- the suffix behind i letters, and i zeros
 abbrev pub shifted : ℕ → ℕ → ℕ → ℕ → ℕ
@@ -72,11 +72,11 @@ module _ (k m c : ℕ) (some : 1 ≤ k) where
     -- the suffix behind i letters, where it is before each shorter one
     pub suffix_lyndon : (i : ℕ) → i < m → ((j : ℕ) → i < j → j < m → shifted k m c i < shifted k m c j) → true ≡ lyndon (drop i (spelled k m c))
     suffix_lyndon i l h =
-        back_lyndon k m c some coded i true k (m - i) (c % k ^ (m - i)) refl (back_codes k m c some coded i (k ^ (m - i)) (omega arith) refl)
-        (lyndon_by_digits k (m - i) (c % k ^ (m - i)) some (mod-lt c (pos (m - i))) (omega arith) (λ j p q.
+        lyndon_by_digits k (m - i) (c % k ^ (m - i)) some (mod-lt c (pos (m - i))) (omega arith) (λ j p q.
         let e : m - i - j + j ≡ m - i = omega arith in
         let all : m ≡ m - i - j + j + i = omega arith in
-        rw e at (leads_by_shifted i j (m - i - j) all (h (i + j) (omega arith) (omega arith)))))
+        rw e at (leads_by_shifted i j (m - i - j) all (h (i + j) (omega arith) (omega arith))))
+        ∙ ap lyndon (back_spelled k m c some coded i (omega arith))
 
     -- and where it is not
     pub suffix_not : (i j : ℕ) → i < j → j < m → shifted k m c j ≤ shifted k m c i → false ≡ lyndon (drop i (spelled k m c))
@@ -86,8 +86,8 @@ module _ (k m c : ℕ) (some : 1 ≤ k) where
         let r : m - i - (j - i) ≡ m - j = omega arith in
         let all : m ≡ m - j + (j - i) + i = omega arith in
         let t : c % k ^ (m - i) % k ^ (m - i - (j - i)) ≤ c % k ^ (m - i) / k ^ (j - i) = rw (e, ← r) at (trails_by_shifted i (j - i) (m - j) all (rw e' h)) in
-        back_lyndon k m c some coded i false k (m - i) (c % k ^ (m - i)) refl (back_codes k m c some coded i (k ^ (m - i)) (omega arith) refl)
-        (not_lyndon_by_digits k (m - i) (c % k ^ (m - i)) some (mod-lt c (pos (m - i))) (j - i) (omega arith) (omega arith) t)
+        not_lyndon_by_digits k (m - i) (c % k ^ (m - i)) some (mod-lt c (pos (m - i))) (j - i) (omega arith) (omega arith) t
+        ∙ ap lyndon (back_spelled k m c some coded i (omega arith))
 
     pub shifted_whole : shifted k m c 0 ≡ c
     shifted_whole =

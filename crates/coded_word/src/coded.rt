@@ -148,7 +148,34 @@ impl CodedWord {
     fn cut(self) -> Option<u8>
         ensures { MatchOption result (self.length ≡ 1) (λ i. (0 < i) × (i < self.length) × (i ≡ cut (word_of self))) }
     {
-        (1..self.length).find(|i| self.cut_at(*i).right.is_lyndon())
+        if self.length == 1 {
+            return None;
+        }
+        Some(self.find_least())
+    }
+
+    /// How many letters stand before its least proper suffix, which is the longest that is Lyndon.
+    // the suffixes are filled up with zeros; of two that then are the same the shorter, which comes later, is the lesser
+    #[tactic(auto, using(crate::proofs::Least::least_start, crate::proofs::Least::least_taken, crate::proofs::Least::least_kept, crate::proofs::Least::least_some, crate::proofs::Least::least_within, crate::proofs::Least::least_cut))]
+    fn find_least(self) -> u8
+        requires { 1 < self.length }
+        ensures some { 0 < result }
+        ensures within { result < self.length }
+        ensures cut { result ≡ cut (word_of self) }
+    {
+        let k = u16::from(self.shape.k);
+        let words = self.shape.count_words(self.length);
+        let mut shifted = self.code;
+        let mut least = words;
+        let mut before = 0;
+        for i in 1..self.length {
+            shifted = shifted * k % words;
+            if shifted <= least {
+                least = shifted;
+                before = i;
+            }
+        }
+        before
     }
 
     /// It cut behind so many letters.
