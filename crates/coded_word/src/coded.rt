@@ -256,6 +256,7 @@ impl Cursor {
     {
         let words = self.shape.count_words(self.length);
         let mut code = self.code;
+        // by hand: how far a step goes is known when a code is tried
         while code < words {
             let word = CodedWord {
                 shape: self.shape,
