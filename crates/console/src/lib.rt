@@ -181,10 +181,21 @@ mod tests {
     }
 
     #[test]
+    fn an_empty_input_is_an_empty_line(rt: HostRuntime) -> Result<(), Fail> {
+        let mut output = Vec::new(rt.alloc());
+        run(&Echo, rt.alloc(), b"".as_slice(), &mut output)?;
+        assert!(rt; output.is_empty());
+        Ok(())
+    }
+
+    #[test]
     fn a_fault_is_a_line(rt: HostRuntime) -> Result<(), Fail> {
         let fault = Fault::found(14, Layer::Text, 0, 0);
         let lines = settled(rt.alloc(), Err(Stop::Refused(fault)))?;
         assert!(rt; lines.as_slice() == b"fault 14\n".as_slice());
+        let fault = Fault::found(15, Layer::Text, 0, 0);
+        let lines = settled(rt.alloc(), Err(Stop::Refused(fault)))?;
+        assert!(rt; lines.as_slice() == b"fault 15\n".as_slice());
         Ok(())
     }
 }

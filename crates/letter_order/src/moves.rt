@@ -6,15 +6,14 @@ use crate::order::Order;
 use std::cmp::Ordering;
 
 /// Which way a move goes along its axis.
-#[derive(Clone, Copy, PartialEq, Eq, PartialOrd, Ord, Default, Debug)]
+#[derive(Clone, Copy, PartialEq, Eq, PartialOrd, Ord, Debug)]
 pub enum Sense {
-    #[default]
     Reverse,
     Forward,
 }
 
 /// A move along an axis. Its order is by axis, and along one axis by sense.
-#[derive(Clone, Copy, PartialEq, Eq, PartialOrd, Ord, Default, Debug)]
+#[derive(Clone, Copy, PartialEq, Eq, PartialOrd, Ord, Debug)]
 pub struct Move {
     pub axis: u8,
     pub sense: Sense,

@@ -5,7 +5,7 @@ ghost use Rattle.trace.specs.Printed.{LinePrints, Rising, start_lines};
 
 use console::{Program, Stop};
 use lent_list::LentList;
-use letter_order::{ByAxis, Move, Reversed};
+use letter_order::{ByAxis, Move, Reversed, Sense};
 use std::alloc::{AllocError, Global};
 use text::{first_line, write_factor_line};
 use trace_text::read_trace;
@@ -13,6 +13,12 @@ use word::factor;
 
 /// A line of 4,096 bytes has no more moves: each takes two bytes, and a space but for the first.
 const MOST: usize = 1_366;
+
+/// What stands in the memory for moves before any is read.
+const UNREAD: Move = Move {
+    axis: 0,
+    sense: Sense::Reverse,
+};
 
 /// The most bytes that the line of a factor has, and some more.
 const LONGEST: usize = 16;
@@ -29,7 +35,7 @@ impl Program for Trace {
     #[tactic(auto, using(crate::proofs::Reports::trace_refused, crate::proofs::Reports::factors_fit, crate::proofs::Reports::rising_factors, crate::proofs::Reports::trace_printed))]
     fn lines(&self, heap: Global, input: &[u8]) -> Result<Vec<u8>, Stop> {
         let line = first_line(input)?;
-        let mut memory = [Move::default(); MOST];
+        let mut memory = [UNREAD; MOST];
         let mut moves = LentList::new(&mut memory);
         let count = read_trace(line, &mut moves)?;
         let mut memory = [0; MOST];
