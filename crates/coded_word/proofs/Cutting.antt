@@ -1,11 +1,8 @@
 -- A word cut in two, by quotient and remainder of its code.
-use Rattle.std.proofs.Common.{◌≡◌, ℕ, ◌-◌, ◌/◌, ◌%◌, ◌^◌, ◌<◌, ◌≤◌, ◌⊎◌, Bool, true, false, Some, None, Option, MatchOption, length, take, drop, inl, inr, refl, sym, ap, ◌∙◌, arith}
-use Rattle.std.proofs.lemmas.Bool.{both_ways, cases_lt}
+use Rattle.std.proofs.Common.{◌≡◌, ℕ, ◌-◌, ◌/◌, ◌%◌, ◌^◌, ◌<◌, ◌≤◌, length, take, drop, refl, sym, ap, ◌∙◌}
 use Rattle.lyndon.specs.Codes.{code, spelled}
-use Rattle.lyndon.specs.Entries.{cut}
-use Rattle.lyndon.specs.Listing.{lyndon}
-use Rattle.lyndon.proofs.Codes.{code_below, cut_splits, cut_within, length-spelled, over-drop, over-take, says_lyndon, spelled-code, spelled-over}
-use Rattle.lyndon.proofs.Digits.{cut_first, prefix_code, prefix_size, suffix_code, suffix_size}
+use Rattle.lyndon.proofs.Codes.{code_below, over-drop, over-take, spelled-code, spelled-over}
+use Rattle.lyndon.proofs.Digits.{prefix_code, prefix_size, suffix_code, suffix_size}
 use Rattle.coded_word.specs.Codes.{Codes}
 
 module _ (k m c : ℕ) (some : 1 ≤ k) (coded : c < k ^ m) where

@@ -1,5 +1,5 @@
 -- The suffixes of a word, each filled up with zeros to the length of the word, by their codes.
-use Rattle.std.proofs.Common.{◌≡◌, ℕ, ◌+◌, ◌-◌, ◌*◌, ◌/◌, ◌%◌, ◌^◌, ◌<◌, ◌≤◌, true, false, inl, inr, drop, refl, sym, ap, ◌∙◌, mul_assoc, add-mul, add-one, mod-lt, div-lt_iff_lt-mul, pow-suc, pow-add, div-add-mod', arith}
+use Rattle.std.proofs.Common.{◌≡◌, ℕ, ◌+◌, ◌-◌, ◌*◌, ◌/◌, ◌%◌, ◌^◌, ◌<◌, ◌≤◌, true, false, inl, inr, drop, sym, ap, ◌∙◌, mul_assoc, add-mul, add-one, mod-lt, div-lt_iff_lt-mul, pow-suc, pow-add, div-add-mod', arith}
 use native.Mathlib.Nat.{one-le-pow, pow-zero, mod-mod_of_dvd, dvd-mul_right, mul-lt-mul_of_pos_right, lt_of_mul-lt-mul_right}
 use lib.Arith.{digits_mod}
 use Rattle.std.proofs.lemmas.Bool.{cases_lt}
