@@ -6,8 +6,8 @@
  *
  * A call on a table takes k, n and `grows`, and works on the table that they make: open k n, and then grow so many
  * times. So it has the first `grows` Lyndon words of at most n letters, numbered from 0. Nothing is kept between calls,
- * and the table lies in memory of the call's own (about 14 KB of stack; expand, into and back take 33 KB), so that nothing
- * rests on what a caller hands back. `lyndon_entries` answers how many Lyndon words there are.
+ * and the table lies in memory of the call's own (about 14 KB of stack; expand, into and back take 33 KB), so that
+ * nothing rests on what a caller hands back. `lyndon_entries` answers how many Lyndon words there are.
  *
  * Each call answers a fault whose number is 0 where it was accepted. Where it is refused, nothing that was lent is
  * altered. Pointers are to be valid for their counts, also where a count is 0, and memory that is written must not
