@@ -8,7 +8,6 @@ ghost use Rattle.table_text.specs.Lines.{coordinate_line};
 
 use crate::symbols::{LETTERS, put_word};
 use coded_word::CodedWord;
-use lent_list::LentList;
 use text::{Piece, TextFault, write_pieces};
 
 /// Writes symbols and a value, with a space between and a line feed behind.
@@ -39,7 +38,7 @@ pub fn write_coordinate_line(
     ensures buffer { buffer.new ≡ left (coordinate_line (word_of word) value) buffer.old }
 {
     let mut memory = [0; LETTERS];
-    let mut symbols = LentList::new(&mut memory);
-    put_word(word, &mut symbols)?;
-    write_fields(symbols.items(), value, buffer)
+    let symbols = &mut memory[..usize::from(word.length)];
+    put_word(word, symbols);
+    write_fields(symbols, value, buffer)
 }

@@ -1,11 +1,9 @@
 //! The symbols of words.
-ghost use Rattle.std.specs.Prelude.{◌≡◌, ◌+◌, ◌<◌, ◌++◌, map, length, MatchResult};
-ghost use Rattle.lent_list.specs.Lent.{items, places, SameMemory};
+ghost use Rattle.std.specs.Prelude.{◌≡◌, ◌<◌, map, length};
 ghost use Rattle.text.specs.Symbols.{symbol};
 ghost use Rattle.coded_word.specs.Words.{word_of};
 
 use coded_word::CodedWord;
-use lent_list::{Full, LentList};
 
 /// The most letters that a word of a shape has.
 pub(crate) const LETTERS: usize = 12;
@@ -18,17 +16,14 @@ pub(crate) fn symbol_of(letter: u8) -> u8
     char::from_digit(u32::from(letter), 16).unwrap() as u8
 }
 
-/// Puts the symbols of a word behind a line.
-#[tactic(auto, using(crate::proofs::Spelled::word_size, crate::proofs::Spelled::letter_small))]
-pub(crate) fn put_word(word: CodedWord, line: &mut LentList<u8>) -> Result<(), Full>
-    ensures done { MatchResult result
-        (λ _. items line.new ≡ items line.old ++ map symbol (word_of word))
-        (λ _. length (places line.old) < length (items line.old) + word.length) }
-    ensures lender { SameMemory line.old line.new }
+/// Writes the symbols of a word, in as many places as it has letters.
+#[tactic(auto, using(crate::proofs::Spelled::word_size, crate::proofs::Spelled::letter_small, crate::proofs::Spelled::symbols_more, crate::proofs::Spelled::symbols_all))]
+pub(crate) fn put_word(word: CodedWord, symbols: &mut [u8])
+    requires { length symbols.old ≡ word.length }
+    ensures { symbols.new ≡ map symbol (word_of word) }
 {
     let letters = word.letters();
-    for letter in letters.as_slice() {
-        line.push(symbol_of(*letter))?;
+    for (place, letter) in letters.as_slice().iter().enumerate() {
+        symbols[place] = symbol_of(*letter);
     }
-    Ok(())
 }

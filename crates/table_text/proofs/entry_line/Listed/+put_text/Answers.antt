@@ -1,17 +1,12 @@
-use Rattle.std.proofs.Common.{length, ap, arith, length-append}
-use Rattle.std.proofs.lemmas.Grind.{common_steps}
-use Rattle.std.proofs.lemmas.Result.{MatchResult-weaker, err_from_is_err_and}
+use Rattle.std.proofs.Common.{ℕ, length, ap, arith, length-append}
+use Rattle.std.proofs.lemmas.List.{length-set}
+use Rattle.table_text.specs.Reads.{entry_text}
+use Rattle.table_text.proofs.Putting.{puts_pair}
 use Rattle.table_text.proofs.entry_line.Listed.+put_text.Goals as goal
 
-pub returns-in_err-put_text-in-Some-2-clause-done : goal.returns-in_err-put_text-in-Some-2-clause-done
-returns-in_err-put_text-in-Some-2-clause-done t c =
-    let p = err_from_is_err_and c.from_residual-in_err-put_text-in-Some-2.result c.from_residual-in_err-put_text-in-Some-2.ensures.1 in
-    let size = simp length-append at (ap length c.in-Some.ensures.0) in
-    rw p.1 (grind (arith, common_steps))
-
-pub returns-in_ok-put_text-in-Some-2-clause-done : goal.returns-in_ok-put_text-in-Some-2-clause-done
-returns-in_ok-put_text-in-Some-2-clause-done t c =
-    let size = simp length-append at (ap length c.in-Some.ensures.0) in
-    MatchResult-weaker c.push-in-Some-3.result c.push-in-Some-3.ensures.done
-    (λ _ p. (grind (arith, common_steps, p), grind (arith, common_steps, p)))
-    (λ _ q. grind (arith, common_steps, q))
+pub returns-in-Some : goal.returns-in-Some
+returns-in-Some t c =
+    let whole = rw (c.at-listed.ensures.entries, c.at-listed.ensures.number, c.at-listed.ensures.shape, ← c.from.ensures, ← c.from-in-Some.ensures) at c.in-Some.ensures.0 in
+    let size = simp length-append at (ap length whole) in
+    rw whole
+    (puts_pair c.args.place c.put_text-comma.result c.put_text-close.result c.args.buffer.now c.put_text-comma.new.buffer c.put_text-close.new.buffer (entry_text c.args.self.now.shape.k c.args.self.now.entries.now c.from.result) (entry_text c.args.self.now.shape.k c.args.self.now.entries.now c.from-in-Some.result) (omega (arith, length-set {A = ℕ})) (omega (arith, length-set {A = ℕ})) (omega (arith, length-set {A = ℕ})) c.put_text-comma.ensures c.put_text-close.ensures)
