@@ -1,9 +1,7 @@
 -- The search for an entry among entries in listing order.
-use Rattle.std.proofs.Common.{◌≡◌, ℕ, zero, suc, ◌+◌, ◌<◌, ◌≤◌, Bool, true, false, ◌⊎◌, List, [], ◌∷◌, length, get_or, Some, None, IfSome, Result, Ok, Err, Ordering, Less, Equal, Greater, sym, refl, ap, ◌∙◌, inl, inr, add-zero, zero-add, arith}
+use Rattle.std.proofs.Common.{◌≡◌, ℕ, zero, suc, ◌+◌, ◌<◌, ◌≤◌, Bool, true, false, ◌⊎◌, List, [], ◌∷◌, length, get_or, Some, None, IfSome, Ordering, Less, Equal, Greater, sym, refl, ap, ◌∙◌, inl, inr, add-zero, zero-add, arith}
 use Rattle.std.specs.List.{position_from}
-use Rattle.std.specs.List.Sorted.{IsSearchInRange, IsBinarySearchResult, IsNonDecreasingBy}
-use Rattle.std.specs.Ordering.{nat_cmp, ordering_index, ordering_then}
-use Rattle.std.specs.Result.{result_ok}
+use Rattle.std.specs.Ordering.{nat_cmp, ordering_then}
 use Rattle.std.proofs.lemmas.Bool.{cases_lt, cases_Bool}
 use Rattle.std.proofs.lemmas.Bool.Decides.{nat_tests}
 use Rattle.lyndon.specs.declared.entry.Entry.{Entry}
@@ -55,24 +53,48 @@ miss_behind e m c h = grind (arith, nat_tests)
 miss_earlier : (d e : Entry) (m c : ℕ) → Earlier d e → stands m c e ≡ Equal → has m c d ≡ false
 miss_earlier d e m c l h = grind (arith, nat_tests)
 
-rise : (d e : Entry) (m c : ℕ) → Earlier d e → ordering_index (stands m c d) ≤ ordering_index (stands m c e)
-rise d e m c l = grind (arith, nat_tests)
+lower : (d e : Entry) (m c : ℕ) → Earlier d e → stands m c e ≡ Less → stands m c d ≡ Less
+lower d e m c l h = grind (arith, nat_tests)
 
-module _ (es : List Entry) (up : Rising Earlier es) (m c : ℕ) where
-  rises : IsNonDecreasingBy (λ e. ordering_index (stands m c e)) es
-  rises i j d le lt = go (cases_lt i j)
+higher : (d e : Entry) (m c : ℕ) → Earlier d e → stands m c d ≡ Greater → stands m c e ≡ Greater
+higher d e m c l h = grind (arith, nat_tests)
+
+-- all below low are before the word, and all from high on are behind it
+pub record Between (es : List Entry) (m c low high : ℕ) : Type 0 where
+  pub below : (j : ℕ) → j < low → stands m c (get_or es j no_entry) ≡ Less
+  pub above : (j : ℕ) → high ≤ j → j < length es → stands m c (get_or es j no_entry) ≡ Greater
+
+pub search_start : (es : List Entry) (m c high : ℕ) → high ≡ length es → Between es m c 0 high
+search_start es m c high all = record { below = λ j h. absurd (omega arith); above = λ j h l. absurd (omega arith) }
+
+module _ (es : List Entry) (up : Rising Earlier es) (m c low high i : ℕ) (B : Between es m c low high) (here : i < length es) where
+  pub search_up : stands m c (get_or es i no_entry) ≡ Less → Between es m c (i + 1) high
+  search_up h = record { below = λ j l. go j l (cases_lt j i); above = B.above }
     where
-      go : (i < j) ⊎ (j ≤ i) → ordering_index (stands m c (get_or es i d)) ≤ ordering_index (stands m c (get_or es j d))
-      go (inl l) = rise (get_or es i d) (get_or es j d) m c (rising_at Earlier es i j d up l lt)
-      go (inr l) = let e : i ≡ j = omega arith in rw e (omega arith)
+      go : (j : ℕ) → j < i + 1 → (j < i) ⊎ (i ≤ j) → stands m c (get_or es j no_entry) ≡ Less
+      go j l (inl b) = lower (get_or es j no_entry) (get_or es i no_entry) m c (rising_at Earlier es j i no_entry up b here) h
+      go j l (inr b) = let e : j ≡ i = omega arith in rw e h
 
-  pub searched : (r : Result ℕ ℕ) → IsSearchInRange r (length es) → IsBinarySearchResult (stands m c) es r → result_ok r ≡ spot es m c
-  searched (Ok i) lt equal =
+  pub search_down : stands m c (get_or es i no_entry) ≡ Greater → Between es m c low i
+  search_down h = record { below = B.below; above = λ j b l. go j l (cases_lt i j) b }
+    where
+      go : (j : ℕ) → j < length es → (i < j) ⊎ (j ≤ i) → i ≤ j → stands m c (get_or es j no_entry) ≡ Greater
+      go j l (inl a) b = higher (get_or es i no_entry) (get_or es j no_entry) m c (rising_at Earlier es i j no_entry up a l) h
+      go j l (inr a) b = let e : j ≡ i = omega arith in rw e h
+
+module _ (es : List Entry) (up : Rising Earlier es) (m c i : ℕ) (here : i < length es) where
+  pub search_hit : stands m c (get_or es i no_entry) ≡ Equal → Some i ≡ spot es m c
+  search_hit h =
       ap Some (sym (zero-add i))
-      ∙ position_at (has m c) es 0 i lt (hit (get_or es i no_entry) m c (equal no_entry)) (λ j l.
-      miss_earlier (get_or es j no_entry) (get_or es i no_entry) m c (rising_at Earlier es j i no_entry up l lt) (equal no_entry))
-  searched (Err i) le parted = position_none (has m c) es 0 (λ j l. go j l (cases_lt j i))
-    where
-      go : (j : ℕ) → j < length es → (j < i) ⊎ (i ≤ j) → has m c (get_or es j no_entry) ≡ false
-      go j l (inl b) = miss_before (get_or es j no_entry) m c ((parted rises).0 j no_entry (omega arith) b)
-      go j l (inr b) = miss_behind (get_or es j no_entry) m c ((parted rises).1 j no_entry b l)
+      ∙ position_at (has m c) es 0 i here (hit (get_or es i no_entry) m c h) (λ j l.
+      miss_earlier (get_or es j no_entry) (get_or es i no_entry) m c (rising_at Earlier es j i no_entry up l here) h)
+
+pub search_miss : (es : List Entry) (m c low high : ℕ) → Between es m c low high → high ≤ low → None ≡ spot es m c
+search_miss es m c low high B over = position_none (has m c) es 0 (λ j l. go j l (cases_lt j low))
+  where
+    go : (j : ℕ) → j < length es → (j < low) ⊎ (low ≤ j) → has m c (get_or es j no_entry) ≡ false
+    go j l (inl b) = miss_before (get_or es j no_entry) m c (B.below j b)
+    go j l (inr b) = miss_behind (get_or es j no_entry) m c (B.above j (omega arith) l)
+
+-- what a step of the search follows from
+pub ruleset searches = (search_start, search_up, search_down, search_hit, search_miss)

@@ -153,6 +153,10 @@ impl<'a> Table<'a> {
         ensures lender { SameMemory self.old.entries self.new.entries }
     {
         let number = self.entries.count();
+        // `push` refuses too, but only once the entry is made, which takes a cut and two searches
+        if number == self.entries.size() {
+            return Err(Full);
+        }
         let entry = self.entry_of(word);
         self.entries.push(entry)?;
         self.next = Some(word.after());
