@@ -1,17 +1,36 @@
--- The front of what a reader has left.
-use Rattle.std.proofs.Common.{◌≡◌, ℕ, List, ◌++◌, take, [], None, Some, Option, IfSome, ap, ◌∙◌, subst, arith}
-use Rattle.std.specs.declared.io.traits.Take.{Take}
-use Rattle.std.specs.Io.Take.{take_inner, take_limit, take_remaining}
-use Rattle.std.specs.Option.{option_map}
-use Rattle.std.proofs.lemmas.List.{take-take}
+-- What is read of an input into the front of a buffer, one read behind another.
+use Rattle.std.proofs.Common.{◌≡◌, ℕ, ◌+◌, ◌-◌, ◌≤◌, List, ◌++◌, length, take, None, Some, Option, sym, ap, ◌∙◌, subst, refl, arith}
+use borrow.Rule.Slice.PartMut.{put_mid}
+use Rattle.std.proofs.Math.Seq.{take-append-add}
+use Rattle.std.proofs.lemmas.List.{append_assoc, length-take-le, take-take}
+use Rattle.std.proofs.lemmas.Slice.{take-put_mid, take-put_mid_below}
+use Rattle.std.specs.Io.KnownBytes.{Consumes, Keeps}
 
-front_of : (known : Option (List ℕ)) (most : ℕ) (old all front : List ℕ) → old ≡ [] → IfSome (option_map (take most) known) (λ xs. all ≡ old ++ xs) → front ≡ take most all → IfSome known (λ bytes. front ≡ take most bytes)
-front_of None most old all front empty read cut = tt
-front_of (Some bytes) most old all front empty read cut =
-    cut ∙ (ap (take most) (read ∙ ap (λ l. l ++ take most bytes) empty) ∙ take-take most most bytes (omega arith))
+consumes_then : (known mid new : Option (List ℕ)) (a b : List ℕ) → Consumes known mid a → Consumes mid new b → Consumes known new (a ++ b)
+consumes_then None mid new a b p q = tt
+consumes_then (Some xs) None new a b p q = absurd p
+consumes_then (Some xs) (Some ys) None a b p q = absurd q
+consumes_then (Some xs) (Some ys) (Some zs) a b p q = p ∙ ap (λ l. a ++ l) q ∙ sym (append_assoc a b zs)
 
--- what is read of a reader that is limited, and cut where its bytes are not known
-pub front_read : {R : Type 0} (remaining : R → Option (List ℕ)) (limited : Take R) (input : R) (most : ℕ) (old all front : List ℕ) → take_limit limited ≡ most → take_inner limited ≡ input → old ≡ [] → IfSome (take_remaining remaining limited) (λ xs. all ≡ old ++ xs) → front ≡ take most all → IfSome (remaining input) (λ bytes. front ≡ take most bytes)
-front_read remaining limited input most old all front limit inner empty read cut =
-    let at = subst (λ n. IfSome (option_map (take n) (remaining limited.inner)) (λ xs. all ≡ old ++ xs)) limit read in
-    front_of (remaining input) most old all front empty (subst (λ r. IfSome (option_map (take most) (remaining r)) (λ xs. all ≡ old ++ xs)) inner at) cut
+consumes_keeps : (known mid new : Option (List ℕ)) (a : List ℕ) → Consumes known mid a → Keeps mid new → Consumes known new a
+consumes_keeps None mid new a p q = tt
+consumes_keeps (Some xs) None new a p q = absurd p
+consumes_keeps (Some xs) (Some ys) None a p q = absurd q
+consumes_keeps (Some xs) (Some ys) (Some zs) a p q = p ∙ ap (λ l. a ++ l) (sym q)
+
+-- a read gave so many bytes
+pub reads_more : (known mid new : Option (List ℕ)) (old part : List ℕ) (count n : ℕ) → count ≤ length old → n ≤ length part → Consumes known mid (take count old) → Consumes mid new (take n part) → Consumes known new (take (count + n) (put_mid count (length old - count) old part))
+reads_more known mid new old part count n within some p q =
+    let whole = take-put_mid count (length old - count) old part (count + length part) refl within in
+    let size = length-take-le count old within in
+    let front : take (count + n) (put_mid count (length old - count) old part) ≡ take count old ++ take n part =
+    sym (take-take (count + n) (count + length part) (put_mid count (length old - count) old part) (omega arith))
+    ∙ ap (take (count + n)) whole
+    ∙ ap (λ m. take (m + n) (take count old ++ part)) (sym size)
+    ∙ take-append-add (take count old) part n in
+    subst (Consumes known new) (sym front) (consumes_then known mid new (take count old) (take n part) p q)
+
+-- a read gave none
+pub reads_none : (known mid new : Option (List ℕ)) (old part : List ℕ) (count : ℕ) → count ≤ length old → Consumes known mid (take count old) → Keeps mid new → Consumes known new (take count (put_mid count (length old - count) old part))
+reads_none known mid new old part count within p q =
+    subst (Consumes known new) (sym (take-put_mid_below count (length old - count) old part count (omega arith) within)) (consumes_keeps known mid new (take count old) p q)

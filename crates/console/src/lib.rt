@@ -13,7 +13,7 @@ ghost use Rattle.console.specs.declared.Stop.TheVariants.{Refused, NoMemory};
 use faults::Fault;
 use std::alloc::{AllocError, Global};
 use std::io;
-use std::io::{Read, Write};
+use std::io::{Error, ErrorKind, Read, Write};
 use text::{TextFault, write_fault_line};
 use word::WordFault;
 
@@ -23,24 +23,41 @@ pub const FRONT: usize = 4_097;
 /// The most bytes that the line of a fault has, and some more.
 const LONGEST: usize = 16;
 
-/// The front of an input: as many bytes as decide what its first line is, or all where there are fewer.
-pub fn read_front<R: Read + Drop>(heap: Global, input: R) -> io::Result<Vec<u8>>
-    ensures within { IfOk result (λ front. length front.items ≤ 4097) }
-    ensures bytes { IfOk result (λ front. IfSome (R.remaining input) (λ bytes. front.items ≡ take 4097 bytes)) }
+/// Fills a buffer with the front of an input, and answers how many bytes were read: fewer than it has room for only
+/// where the input ends.
+pub fn read_front<R: Read>(input: &mut R, buffer: &mut [u8; FRONT]) -> io::Result<usize>
+    ensures room { length buffer.new ≡ 4097 }
+    ensures within { IfOk result (λ count. count ≤ 4097) }
+    ensures bytes { IfOk result (λ count. IfSome (R.remaining input.old) (λ bytes. take count buffer.new ≡ take 4097 bytes)) }
 {
-    read_at_most(heap, input, FRONT)
+    read_at_most(input, FRONT, buffer)
 }
 
-/// So many bytes of an input, or all where there are fewer.
-fn read_at_most<R: Read + Drop>(heap: Global, input: R, most: usize) -> io::Result<Vec<u8>>
-    ensures within { IfOk result (λ front. length front.items ≤ most) }
-    ensures bytes { IfOk result (λ front. IfSome (R.remaining input) (λ bytes. front.items ≡ take most bytes)) }
+/// Reads so many bytes of an input into a buffer of that size, or all where there are fewer.
+// Into lent memory, and each time for all that is left of it: `read_to_end` asks the heap for memory, which could be
+// refused, and at first reads less, so that the rest of a message would be lost where standard input keeps them apart.
+#[tactic(auto, using(crate::proofs::Fronts::reads_more, crate::proofs::Fronts::reads_none))]
+fn read_at_most<R: Read>(input: &mut R, most: usize, buffer: &mut [u8]) -> io::Result<usize>
+    requires { length buffer.old ≡ most }
+    ensures within { IfOk result (λ count. count ≤ most) }
+    ensures bytes { IfOk result (λ count. IfSome (R.remaining input.old) (λ bytes. take count buffer.new ≡ take most bytes)) }
 {
-    let mut front = Vec::new(heap);
-    input.take(most as u64).read_to_end(&mut front)?;
-    // where the bytes are not known, std does not promise that `take` ends them
-    front.truncate(most);
-    Ok(front)
+    let mut count = 0;
+    for _ in 0..u64::MAX {
+        if count == most {
+            return Ok(count);
+        }
+        let read = match input.read(&mut buffer[count..]) {
+            Ok(read) => read,
+            Err(error) if error.kind() == ErrorKind::Interrupted => continue,
+            Err(error) => return Err(error),
+        };
+        if read == 0 {
+            return Ok(count);
+        }
+        count += read;
+    }
+    Err(Error::from(ErrorKind::TimedOut))
 }
 
 /// What stops a report.
@@ -135,15 +152,16 @@ pub trait Program {
 pub fn run<P: Program, R: Read + Drop, W: Write>(
     program: &P,
     heap: Global,
-    input: R,
+    mut input: R,
     output: &mut W,
 ) -> io::Result<()>
     ensures { OnOk result (IfSome (R.remaining input) (λ bytes. (printed : List ℕ)
         × Prints P.prints bytes printed
         × Appends (W.contents output.old) (W.contents output.new) printed)) }
 {
-    let front = read_front(heap, input)?;
-    let lines = program.report(heap, &front)?;
+    let mut front = [0; FRONT];
+    let count = read_front(&mut input, &mut front)?;
+    let lines = program.report(heap, &front[..count])?;
     output.write_all(&lines)
 }
 
