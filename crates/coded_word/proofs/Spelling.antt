@@ -1,9 +1,9 @@
 -- The loops that read the code of a word, and write its letters.
-use Rattle.std.proofs.Common.{◌≡◌, ℕ, zero, suc, ◌+◌, ◌-◌, ◌*◌, ◌/◌, ◌%◌, ◌^◌, ◌<◌, ◌≤◌, List, [], ◌∷◌, ◌++◌, length, get_or, set, take, sym, ap, ap₂, append_assoc, append-nil, ◌∙◌, mul-le-mul_right, add-mul, one-mul, mod-lt, div-lt_iff_lt-mul, pow-suc, mul-div_cancel, add-one, arith}
-use native.Mathlib.Nat.{pow-succ', pow-le-pow_right, one-le-pow}
-use Rattle.std.proofs.lemmas.List.{take_more, take_all, take_more_set}
+use Rattle.std.proofs.Common.{◌≡◌, ℕ, zero, suc, ◌+◌, ◌-◌, ◌*◌, ◌/◌, ◌%◌, ◌^◌, ◌<◌, ◌≤◌, List, [], ◌∷◌, ◌++◌, length, get_or, set, take, drop, sym, ap, subst, append_assoc, append-nil, ◌∙◌, mul-le-mul_right, add-mul, one-mul, mod-lt, div-lt_iff_lt-mul, pow-suc, add-one, arith}
+use native.Mathlib.Nat.{div-add-mod, mul_comm, pow-le-pow_right}
+use Rattle.std.proofs.lemmas.List.{take_more, take_all, length_push, drop_all, drop-set}
 use Rattle.lyndon.specs.Codes.{Over, code, spelled}
-use Rattle.lyndon.proofs.Codes.{code-push}
+use Rattle.lyndon.proofs.Codes.{code-push, code-spelled, code_same, length-spelled, spelled-over}
 
 -- ---- reading
 
@@ -34,39 +34,46 @@ below_top n k x i l m h lt here le one top =
 
 -- ---- writing
 
--- behind i of m letters, `rest` spells the others
-module _ (k m i rest : ℕ) (here : i < m) where
-  left : m - i ≡ suc (m - 1 - i)
-  left = omega arith
+over_push : (k : ℕ) (w : List ℕ) (x : ℕ) → Over k w → x < k → Over k (w ++ x ∷ [])
+over_push k [] x o h = (h, tt)
+over_push k (y ∷ w) x o h = (o.0, over_push k w x o.1 h)
 
-  next : m - (i + 1) ≡ m - 1 - i
-  next = omega arith
+-- the last letter of a word, and the others
+spelled_last : (k m c : ℕ) → 1 ≤ k → c < k ^ (m + 1) → spelled k (m + 1) c ≡ spelled k m (c / k) ++ (c % k) ∷ []
+spelled_last k m c some small =
+    let few : c < k ^ m * k = rw (add-one, pow-suc) at small in
+    let front : c / k < k ^ m = (div-lt_iff_lt-mul some).1 few in
+    let last : c % k < k = mod-lt c some in
+    code_same k (spelled k (m + 1) c) (spelled k m (c / k) ++ (c % k) ∷ [])
+    (length-spelled k (m + 1) c ∙ sym (length_push (spelled k m (c / k)) (c % k) ∙ ap (λ n. n + 1) (length-spelled k m (c / k))))
+    (spelled-over k (m + 1) c some small)
+    (over_push k (spelled k m (c / k)) (c % k) (spelled-over k m (c / k) some front) last)
+    (code-spelled k (m + 1) c some small
+    ∙ sym (code-push k (spelled k m (c / k)) (c % k) ∙ ap (λ n. n * k + c % k) (code-spelled k m (c / k) some front) ∙ ap (λ n. n + c % k) (mul_comm (c / k) k) ∙ div-add-mod c k))
 
-  spelled_more : spelled k (m - i) rest ≡ rest / k ^ (m - 1 - i) ∷ spelled k (m - (i + 1)) (rest % k ^ (m - 1 - i))
-  spelled_more = rw next (ap (λ j. spelled k j rest) left)
+-- the letters from a place on are written, and `rest` spells those before
+pub letters_none : (k c m : ℕ) (letters w : List ℕ) → length letters ≡ m → spelled k m c ≡ w → spelled k m c ++ drop m letters ≡ w
+letters_none k c m letters w n e =
+    ap (λ l. spelled k m c ++ l) (drop_all m letters (omega arith)) ∙ append-nil (spelled k m c) ∙ e
 
-  pub weight_next : 1 ≤ k → k ^ (m - i) / k ≡ k ^ (m - 1 - i)
-  weight_next some = ap (λ j. k ^ j / k) left ∙ ap (λ w. w / k) (pow-suc k (m - 1 - i)) ∙ mul-div_cancel (k ^ (m - 1 - i)) some
-
-  pub letter_small : 1 ≤ k → rest < k ^ (m - i) → rest / k ^ (m - 1 - i) < k
-  letter_small some small =
-      let p : 0 < k ^ (m - 1 - i) = one-le-pow (m - 1 - i) k some in
-      let h : rest < k * k ^ (m - 1 - i) = rw (left, pow-succ') at small in
-      (div-lt_iff_lt-mul p).1 h
-
-  pub small_next : 1 ≤ k → rest % k ^ (m - 1 - i) < k ^ (m - (i + 1))
-  small_next some = rw next (mod-lt rest (one-le-pow (m - 1 - i) k some))
-
--- one letter more of m is written
-pub letter_spelled : (k m rest place x weight : ℕ) (letters w : List ℕ) → length letters ≡ m → take place letters ++ spelled k (m - place) rest ≡ w → place < m → weight ≡ k ^ (m - 1 - place) → x ≡ rest / weight → take (place + 1) (set letters place x) ++ spelled k (m - (place + 1)) (rest % weight) ≡ w
-letter_spelled k m rest place x weight letters w n e h hw hx =
-    let more : spelled k (m - place) rest ≡ x ∷ spelled k (m - (place + 1)) (rest % weight) = spelled_more k m place rest h ∙ ap₂ (λ v y. y ∷ spelled k (m - (place + 1)) (rest % v)) (sym hw) (ap (λ v. rest / v) (sym hw) ∙ sym hx) in
-    ap (λ l. l ++ spelled k (m - (place + 1)) (rest % weight)) (take_more_set letters place x (omega arith))
-    ∙ append_assoc (take place letters) (x ∷ []) (spelled k (m - (place + 1)) (rest % weight))
-    ∙ ap (λ l. take place letters ++ l) (sym more)
+one_more : (k rest i x : ℕ) (letters w : List ℕ) → 1 ≤ k → i < length letters → rest < k ^ (i + 1) → x ≡ rest % k → spelled k (i + 1) rest ++ drop (i + 1) letters ≡ w → spelled k i (rest / k) ++ drop i (set letters i x) ≡ w
+one_more k rest i x letters w some here small is e =
+    ap (λ l. spelled k i (rest / k) ++ l) (drop-set letters i x here ∙ ap (λ y. y ∷ drop (i + 1) letters) is)
+    ∙ sym (append_assoc (spelled k i (rest / k)) ((rest % k) ∷ []) (drop (i + 1) letters))
+    ∙ ap (λ l. l ++ drop (i + 1) letters) (sym (spelled_last k i rest some small))
     ∙ e
 
-pub all_spelled : (k m rest place : ℕ) (letters w : List ℕ) → length letters ≡ m → take place letters ++ spelled k (m - place) rest ≡ w → m ≤ place → letters ≡ w
-all_spelled k m rest place letters w n e h =
-    let none : m - place ≡ 0 = omega arith in
-    sym (append-nil letters) ∙ ap₂ ◌++◌ (sym (take_all place letters (omega arith))) (ap (λ j. spelled k j rest) (sym none)) ∙ e
+-- the place before `place` is written
+module _ (k rest place : ℕ) (some : 1 ≤ k) (here : 0 < place) (small : rest < k ^ place) where
+  back : place ≡ place - 1 + 1
+  back = omega arith
+
+  smaller : rest < k ^ (place - 1 + 1)
+  smaller = subst (λ n. rest < k ^ n) back small
+
+  pub small_next : rest / k < k ^ (place - 1)
+  small_next = let few : rest < k ^ (place - 1) * k = rw (add-one, pow-suc) at smaller in (div-lt_iff_lt-mul some).1 few
+
+  pub letters_more : (x : ℕ) (letters w : List ℕ) → place ≤ length letters → x ≡ rest % k → spelled k place rest ++ drop place letters ≡ w → spelled k (place - 1) (rest / k) ++ drop (place - 1) (set letters (place - 1) x) ≡ w
+  letters_more x letters w within is e =
+      one_more k rest (place - 1) x letters w some (omega arith) smaller is (subst (λ n. spelled k n rest ++ drop n letters ≡ w) back e)

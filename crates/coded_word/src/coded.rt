@@ -108,18 +108,17 @@ impl CodedWord {
     }
 
     /// Writes its letters.
-    #[tactic(auto, using(crate::proofs::Spelling::weight_next, crate::proofs::Spelling::letter_small, crate::proofs::Spelling::small_next, crate::proofs::Spelling::all_spelled))]
+    // from the last on, with one division for each
+    #[tactic(auto, using(crate::proofs::Spelling::letters_none))]
     fn write_letters(self, letters: &mut [u8])
         requires { length letters.old ≡ self.length }
         ensures { letters.new ≡ word_of self }
     {
         let k = u16::from(self.shape.k);
-        let mut weight = self.shape.count_words(self.length);
         let mut rest = self.code;
-        for place in 0..letters.len() {
-            weight /= k;
-            letters[place] = (rest / weight) as u8;
-            rest %= weight;
+        for place in (0..letters.len()).rev() {
+            letters[place] = (rest % k) as u8;
+            rest /= k;
         }
     }
 
