@@ -153,7 +153,7 @@ impl<'a> Table<'a> {
         ensures lender { SameMemory self.old.entries self.new.entries }
     {
         let number = self.entries.count();
-        // `push` refuses too, but only once the entry is made, which takes a cut and two searches
+        // before the entry is made, which takes a cut and two searches; `push` has room then
         if number == self.entries.size() {
             return Err(Full);
         }

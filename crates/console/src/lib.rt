@@ -43,6 +43,7 @@ fn read_at_most<R: Read>(input: &mut R, most: usize, buffer: &mut [u8]) -> io::R
     ensures bytes { IfOk result (λ count. IfSome (R.remaining input.old) (λ bytes. take count buffer.new ≡ take most bytes)) }
 {
     let mut count = 0;
+    // turns are counted, since nothing says that an input which is interrupted each time ever ends
     for _ in 0..u64::MAX {
         if count == most {
             return Ok(count);

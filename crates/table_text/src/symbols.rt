@@ -13,7 +13,7 @@ pub(crate) fn symbol_of(letter: u8) -> u8
     requires { letter < 16 }
     ensures { result ≡ symbol letter }
 {
-    // looked up: with `char::from_digit` the lines of 16 letters took a tenth to a quarter longer
+    // looked up: with `char::from_digit` the lines of a shape with 16 letters took a tenth to a quarter longer
     b"0123456789abcdef"[usize::from(letter)]
 }
 

@@ -17,7 +17,7 @@ pub enum Piece<'a> {
 }
 
 // By places in the buffer, and digits by a recursion of its own: with a list that bytes are pushed onto and the digits of
-// the crate `itoa`, a line of small numbers took seven times as long, and that of an entry twice as long.
+// the crate `itoa`, a line of small numbers took eight times the instructions, and that of an entry twice the time.
 
 /// How many digits a number has in decimal.
 fn decimal_length(n: u64) -> usize
