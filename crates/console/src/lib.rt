@@ -3,7 +3,7 @@
 #![tactic(auto)]
 
 ghost use Rattle.std.specs.Prelude.{◌≡◌, ℕ, List, ◌≤◌, length, take, IfOk, IfSome, MatchResult, OnOk, vec_items};
-ghost use Rattle.std.specs.Io.KnownBytes.{Appends};
+ghost use Rattle.std.specs.Io.KnownBytes.{Appends, Consumes};
 ghost use Rattle.text.specs.Faults.{text_fault};
 ghost use Rattle.text.specs.Lines.{fault_line};
 ghost use Rattle.word.specs.Faults.{word_fault};
@@ -29,6 +29,7 @@ pub fn read_front<R: Read>(input: &mut R, buffer: &mut [u8; FRONT]) -> io::Resul
     ensures room { length buffer.new ≡ 4097 }
     ensures within { IfOk result (λ count. count ≤ 4097) }
     ensures bytes { IfOk result (λ count. IfSome (R.remaining input.old) (λ bytes. take count buffer.new ≡ take 4097 bytes)) }
+    ensures taken { IfOk result (λ count. Consumes (R.remaining input.old) (R.remaining input.new) (take count buffer.new)) }
 {
     read_at_most(input, FRONT, buffer)
 }
@@ -41,6 +42,7 @@ fn read_at_most<R: Read>(input: &mut R, most: usize, buffer: &mut [u8]) -> io::R
     requires { length buffer.old ≡ most }
     ensures within { IfOk result (λ count. count ≤ most) }
     ensures bytes { IfOk result (λ count. IfSome (R.remaining input.old) (λ bytes. take count buffer.new ≡ take most bytes)) }
+    ensures taken { IfOk result (λ count. Consumes (R.remaining input.old) (R.remaining input.new) (take count buffer.new)) }
 {
     let mut count = 0;
     // turns are counted, since nothing says that an input which is interrupted each time ever ends
