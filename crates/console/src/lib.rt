@@ -151,7 +151,7 @@ pub trait Program {
     ghost once: { (line one other : List ℕ) → prints line one → prints line other → one ≡ other };
 }
 
-/// Runs a program: writes what it prints for an input.
+/// Runs a program: writes what it prints for an input, which is closed before that.
 pub fn run<P: Program, R: Read + Drop, W: Write>(
     program: &P,
     heap: Global,
@@ -164,6 +164,8 @@ pub fn run<P: Program, R: Read + Drop, W: Write>(
 {
     let mut front = [0; FRONT];
     let count = read_front(&mut input, &mut front)?;
+    // whoever takes the output may wait for this
+    drop(input);
     let lines = program.report(heap, &front[..count])?;
     output.write_all(&lines)
 }
@@ -172,6 +174,7 @@ pub fn run<P: Program, R: Read + Drop, W: Write>(
 mod tests {
     use super::*;
     use faults::Layer;
+    use std::cell::Cell;
     use std::test::Fail;
     use text::first_line;
 
@@ -190,6 +193,56 @@ mod tests {
         }
 
         ghost once = { λ line one other p q. p ∙ sym q };
+    }
+
+    /// An input, and whether it is still open.
+    struct Opened<'a> {
+        bytes: &'a [u8],
+        open: &'a Cell<bool>,
+    }
+
+    impl Read for Opened<'_> {
+        fn read(&mut self, buffer: &mut [u8]) -> io::Result<usize> {
+            self.bytes.read(buffer)
+        }
+    }
+
+    impl Drop for Opened<'_> {
+        fn drop(self) {
+            let Opened { bytes: _, open } = self;
+            open.set(false);
+        }
+    }
+
+    /// An output that is refused while an input is open.
+    #[derive(Drop)]
+    struct Waits<'a> {
+        open: &'a Cell<bool>,
+    }
+
+    impl Write for Waits<'_> {
+        fn write(&mut self, bytes: &[u8]) -> io::Result<usize> {
+            if self.open.get() {
+                return Err(Error::from(ErrorKind::WouldBlock));
+            }
+            Ok(bytes.len())
+        }
+
+        fn flush(&mut self) -> io::Result<()> {
+            Ok(())
+        }
+    }
+
+    #[test]
+    fn an_input_is_closed_before_the_output_is_written(rt: HostRuntime) -> Result<(), Fail> {
+        let open = Cell::new(true);
+        let input = Opened {
+            bytes: b"one\n",
+            open: &open,
+        };
+        run(&Echo, rt.alloc(), input, &mut Waits { open: &open })?;
+        assert!(rt; !open.get());
+        Ok(())
     }
 
     #[test]
