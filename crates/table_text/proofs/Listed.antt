@@ -1,5 +1,5 @@
 -- An entry of a table, by its number.
-use Rattle.std.proofs.Common.{◌≡◌, ℕ, ◌+◌, ◌*◌, ◌/◌, ◌^◌, ◌<◌, ◌≤◌, ◌⊎◌, List, [], ◌∷◌, map, length, get_or, sym, ap, ◌∙◌, subst, inl, inr, one-mul, pow-suc, div-one, arith}
+use Rattle.std.proofs.Common.{◌≡◌, ℕ, ◌+◌, ◌*◌, ◌/◌, ◌^◌, ◌<◌, ◌≤◌, ◌⊎◌, List, [], ◌∷◌, map, length, get_or, sym, ap, ◌∙◌, subst, inl, inr, one-mul, pow-suc, div-one, arith, length-append}
 use native.Mathlib.Nat.{pow-zero}
 use Rattle.std.proofs.lemmas.Bool.{cases_lt}
 use Rattle.letter_order.specs.Orders.{by_value}
@@ -81,12 +81,19 @@ module _ (s : Listed) where
     cut_so : Split by_value (word_at s) (word k l) (word k r)
     cut_so = parted.split long
 
-    -- both parts are entries
+    -- both parts are entries, and shorter
     pub left_within : e.left < length es
     left_within = let h = (parted.earlier long).0 in omega (arith, s.named)
 
     pub right_within : e.right < length es
     right_within = let h = (parted.earlier long).1 in omega (arith, s.named)
+
+    pub shorter : (l.length < e.length) × (r.length < e.length)
+    shorter =
+        let a = length-spelled k l.length l.code in
+        let b = length-spelled k r.length r.code in
+        let n : length (word_at s) ≡ length (word k l) + length (word k r) = ap length cut_so.whole ∙ length-append (word k l) (word k r) in
+        (omega (arith, size, cut_so.lyndon.some), omega (arith, size, cut_so.proper))
 
     pub pair_text : text_of (word_at s) ≡ pair (text_of (word k l)) (text_of (word k r))
     pair_text = text_split (word_at s) (word k l) (word k r) cut_so
