@@ -151,7 +151,7 @@ pub trait Program {
     ghost once: { (line one other : List ℕ) → prints line one → prints line other → one ≡ other };
 }
 
-/// Runs a program: writes what it prints for an input, which is closed before that.
+/// Runs a program: writes what it prints for an input, which is closed before that is made.
 pub fn run<P: Program, R: Read + Drop, W: Write>(
     program: &P,
     heap: Global,
@@ -164,7 +164,7 @@ pub fn run<P: Program, R: Read + Drop, W: Write>(
 {
     let mut front = [0; FRONT];
     let count = read_front(&mut input, &mut front)?;
-    // whoever takes the output may wait for this
+    // whoever makes or takes the lines may wait for this
     drop(input);
     let lines = program.report(heap, &front[..count])?;
     output.write_all(&lines)
@@ -214,34 +214,37 @@ mod tests {
         }
     }
 
-    /// An output that is refused while an input is open.
+    /// Prints the first line of its input, but gives up while an input is open.
     #[derive(Drop)]
     struct Waits<'a> {
         open: &'a Cell<bool>,
     }
 
-    impl Write for Waits<'_> {
-        fn write(&mut self, bytes: &[u8]) -> io::Result<usize> {
+    impl Program for Waits<'_> {
+        ghost use Rattle.std.proofs.Common.{sym, ◌∙◌};
+
+        ghost prints = { λ line printed. printed ≡ line };
+
+        fn lines(&self, heap: Global, input: &[u8]) -> Result<Vec<u8>, Stop> {
             if self.open.get() {
-                return Err(Error::from(ErrorKind::WouldBlock));
+                return Err(Stop::NoMemory(AllocError));
             }
-            Ok(bytes.len())
+            Echo.lines(heap, input)
         }
 
-        fn flush(&mut self) -> io::Result<()> {
-            Ok(())
-        }
+        ghost once = { λ line one other p q. p ∙ sym q };
     }
 
     #[test]
-    fn an_input_is_closed_before_the_output_is_written(rt: HostRuntime) -> Result<(), Fail> {
+    fn an_input_is_closed_before_its_lines_are_made(rt: HostRuntime) -> Result<(), Fail> {
         let open = Cell::new(true);
         let input = Opened {
-            bytes: b"one\n",
+            bytes: b"one\ntwo",
             open: &open,
         };
-        run(&Echo, rt.alloc(), input, &mut Waits { open: &open })?;
-        assert!(rt; !open.get());
+        let mut output = Vec::new(rt.alloc());
+        run(&Waits { open: &open }, rt.alloc(), input, &mut output)?;
+        assert!(rt; output.as_slice() == b"one".as_slice());
         Ok(())
     }
 
